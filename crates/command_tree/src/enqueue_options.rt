@@ -19,13 +19,13 @@ pub fn enqueue_command<'a>(alloc: Global) -> Building<'a>
         alloc,
         "projects",
         "FILE",
-        "The file of the pipeline's projects, one a line, or - for standard input; # begins a remark",
+        "The file of the pipeline's projects, one per line, or - for standard input; # begins a comment",
     );
     let handed = option(
         alloc,
         "handed",
         "FILE",
-        "The file of the items that were handed over before, as CHANGE,SET, one a line",
+        "The file of the items that were handed over before, as CHANGE,SET, one per line",
     );
     templated_command(alloc).with(projects).with(handed)
 }
@@ -37,7 +37,7 @@ fn templated_command<'a>(alloc: Global) -> Building<'a>
     let query = file(
         alloc,
         "QUERY",
-        "The answer of gerrit query --format=JSON with the changes' projects",
+        "The file with the answer of gerrit query --format=JSON, for each change's project",
     );
     let tenant = option(alloc, "tenant", "TENANT", "Zuul's tenant, for {tenant}");
     let pipeline = option(

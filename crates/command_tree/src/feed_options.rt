@@ -15,13 +15,13 @@ pub fn events_command<'a>(alloc: Global) -> Building<'a>
         alloc,
         "project",
         "NAME",
-        "Feeds the changes of this project alone, and of those that are named beside it",
+        "Feeds only the changes of this project; may be repeated",
     );
     let projects = option(
         alloc,
         "projects",
         "FILE",
-        "The file of such names, one a line, or - for standard input; # begins a remark",
+        "A file of project names, one per line, or - for standard input; # begins a comment",
     );
     let gate = option(
         alloc,
@@ -49,20 +49,16 @@ fn feeding_command<'a>(alloc: Global) -> Building<'a>
         "FILE",
         "The file of keys, which has the key NAME",
     );
-    let query = flag(
-        alloc,
-        "query",
-        "The input is the answer of a query, and has to be whole",
-    );
+    let query = flag(alloc, "query", "The input is the whole answer to a query");
     let complete = flag(
         alloc,
         "complete",
-        "The same, and the answer has every open change: those that it lacks are abandoned",
+        "As --query, and the answer has every open change: open changes that it lacks are abandoned",
     );
     Building::of(
         alloc,
         "events",
-        "Feeds what Gerrit writes to a session of a site",
+        "Turns Gerrit's events and query answers into session lines, or sends them to a site",
     )
     .with(to)
     .with(keys)

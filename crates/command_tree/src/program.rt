@@ -165,9 +165,13 @@ fn merge_command<'a>(alloc: Global) -> Building<'a>
         "SECOND",
         "The second snapshot's file, - for standard input, or @ADDRESS for a running site",
     );
-    Building::of(alloc, "merge", "Prints the snapshot of two together")
-        .with(first)
-        .with(second)
+    Building::of(
+        alloc,
+        "merge",
+        "Prints one snapshot with the operations of both",
+    )
+    .with(first)
+    .with(second)
 }
 
 /// `footers GATE FILE [--change N] [--json]`
@@ -204,13 +208,13 @@ fn check_command<'a>(alloc: Global) -> Building<'a>
     let snapshot = optional(
         alloc,
         "SNAPSHOT",
-        "The snapshot whose votes the gate is compared with, - for standard input, or @ADDRESS for a running site",
+        "The snapshot to look up labels, voters and bases in, - for standard input, or @ADDRESS for a running site",
     );
     let strict = flag(alloc, "strict", "Ends with status 1 if there is a warning");
     Building::of(
         alloc,
         "check",
-        "Prints what a gate file asks for, and warns of what looks mistaken",
+        "Prints the conditions of a gate file in words, and warns of likely mistakes",
     )
     .with(file(alloc, "GATE", GATE_HELP))
     .with(snapshot)
@@ -248,13 +252,13 @@ fn recover_command<'a>(alloc: Global) -> Building<'a>
     let journal = file(
         alloc,
         "JOURNAL",
-        "The journal's file, or - for standard input",
+        "The journal file, or - for standard input",
     );
     let without = several(
         alloc,
         "without",
         "SITE,START",
-        "Leaves out the operations of a site under a start, once for each such pair",
+        "Leaves out the operations of this site under this start; may be repeated",
     );
     let until = number_option(
         alloc,
@@ -265,7 +269,7 @@ fn recover_command<'a>(alloc: Global) -> Building<'a>
     Building::of(
         alloc,
         "recover",
-        "Prints the snapshot of a journal, without a line that a crash tore",
+        "Prints the snapshot of a journal file, without a line that a crash tore",
     )
     .with(journal)
     .with(without)

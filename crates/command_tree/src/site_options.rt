@@ -30,7 +30,7 @@ pub fn serve_command<'a>(alloc: Global) -> Building<'a>
         alloc,
         "journal",
         "FILE",
-        "The journal that keeps what is taken in",
+        "The journal file, which keeps what is taken in",
     );
     let shown = shown_command(alloc);
     shown.with(load).with(save).with(journal)
@@ -44,13 +44,13 @@ fn shown_command<'a>(alloc: Global) -> Building<'a>
         alloc,
         "http",
         "ADDRESS",
-        "Shows itself to browsers at a port on 127.0.0.1, 0 for one that is free, or at a Unix socket",
+        "Serves web pages at a port on 127.0.0.1 (0 chooses a free one) or at a Unix socket",
     );
     let host = several(
         alloc,
         "http-host",
         "NAME",
-        "A host name that browsers may use for it, once for each, beside localhost",
+        "A host name that browsers may use for it, beside localhost; may be repeated",
     );
     printing_command(alloc).with(http).with(host)
 }
@@ -83,7 +83,7 @@ fn ending_command<'a>(alloc: Global) -> Building<'a>
         IDLE,
         "300000",
         "MS",
-        "How long a session that fed nothing may be silent; 0 means no limit",
+        "Milliseconds of silence after which a session that fed nothing is ended; 0 means no limit",
     );
     let connections = default_option(
         alloc,
@@ -95,7 +95,7 @@ fn ending_command<'a>(alloc: Global) -> Building<'a>
     let ending = flag(
         alloc,
         "until-input-ends",
-        "Hears standard input: stop and reload, and stops at its end",
+        "Obeys the lines stop and reload on standard input, and stops when it ends",
     );
     let paced = paced_command(alloc);
     paced.with(idle).with(connections).with(ending)
@@ -117,7 +117,7 @@ fn paced_command<'a>(alloc: Global) -> Building<'a>
         PAUSE,
         "1000",
         "MS",
-        "Between two rounds of pulls, 1 to 600000",
+        "Milliseconds between two rounds of pulls, 1 to 600000",
     );
     let sessions = default_option(
         alloc,
@@ -138,7 +138,7 @@ fn guarded_command<'a>(alloc: Global) -> Building<'a>
         alloc,
         SITES,
         "N",
-        "A site whose operations it takes from peers, once for each; without it those of all",
+        "A site whose operations it accepts from peers; may be repeated; all sites by default",
     );
     listening_command(alloc).with(sites)
 }
@@ -151,7 +151,7 @@ fn listening_command<'a>(alloc: Global) -> Building<'a>
         alloc,
         "listen",
         "ADDRESS",
-        "A Unix socket for its sessions, by a path with a slash, or HOST:PORT, sealed by keys; once for each",
+        "A Unix socket for its sessions, by a path with a slash, or HOST:PORT, sealed by keys; may be repeated",
     );
     let mode = default_text(
         alloc,
@@ -164,7 +164,7 @@ fn listening_command<'a>(alloc: Global) -> Building<'a>
         alloc,
         "keys",
         "FILE",
-        "The file of the keys that it lets in, and that it dials with",
+        "The file of keys: those it accepts, and those it connects with",
     );
     let placed = placed_command(alloc);
     placed.with(listen).with(mode).with(keys)
@@ -178,7 +178,7 @@ fn placed_command<'a>(alloc: Global) -> Building<'a>
         alloc,
         START,
         "N",
-        "The start, greater than every start the site has used; optional with --journal",
+        "The start; must be greater than every start the site has used; optional with --journal",
     );
     let port = number_option(
         alloc,

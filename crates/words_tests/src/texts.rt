@@ -49,13 +49,13 @@ Commands:
   ready     Prints which items may be enqueued, and why each other one waits
   why       Prints why an item waits, down to the cause
   graph     Prints what items wait for as a Graphviz graph
-  merge     Prints the snapshot of two together
+  merge     Prints one snapshot with the operations of both
   footers   Prints the changes that a commit message depends on
-  check     Prints what a gate file asks for, and warns of what looks mistaken
+  check     Prints the conditions of a gate file in words, and warns of likely mistakes
   simulate  Plays a script of several sites and prints what each line answers
   serve     Runs a site: answers sessions, pulls from peers, prints the report whenever it changes
-  recover   Prints the snapshot of a journal, without a line that a crash tore
-  events    Feeds what Gerrit writes to a session of a site
+  recover   Prints the snapshot of a journal file, without a line that a crash tore
+  events    Turns Gerrit's events and query answers into session lines, or sends them to a site
   enqueue   Writes a command for each item that became ready in reports on standard input
   help      Print this message or the help of the given subcommand(s)
 
@@ -116,7 +116,7 @@ Options:
     ),
     (
         "merge",
-        "Prints the snapshot of two together
+        "Prints one snapshot with the operations of both
 
 Usage: reviewgate merge <FIRST> <SECOND>
 
@@ -146,13 +146,13 @@ Options:
     ),
     (
         "check",
-        "Prints what a gate file asks for, and warns of what looks mistaken
+        "Prints the conditions of a gate file in words, and warns of likely mistakes
 
 Usage: reviewgate check [OPTIONS] <GATE> [SNAPSHOT]
 
 Arguments:
   <GATE>      The gate file, or - for standard input
-  [SNAPSHOT]  The snapshot whose votes the gate is compared with, - for standard input, or @ADDRESS for a running site
+  [SNAPSHOT]  The snapshot to look up labels, voters and bases in, - for standard input, or @ADDRESS for a running site
 
 Options:
       --strict  Ends with status 1 if there is a warning
@@ -186,56 +186,56 @@ Arguments:
 
 Options:
       --site <N>          The site's number, from 1 to 65535
-      --start <N>         The start, greater than every start the site has used; optional with --journal
+      --start <N>         The start; must be greater than every start the site has used; optional with --journal
       --port <P>          The port on 127.0.0.1; 0, the default without --listen, has the system choose one
-      --listen <ADDRESS>  A Unix socket for its sessions, by a path with a slash, or HOST:PORT, sealed by keys; once for each
+      --listen <ADDRESS>  A Unix socket for its sessions, by a path with a slash, or HOST:PORT, sealed by keys; may be repeated
       --mode <MODE>       Who may connect to its sockets: 600, its user, or 660, its group too [default: 600]
-      --keys <FILE>       The file of the keys that it lets in, and that it dials with
-      --sites <N>         A site whose operations it takes from peers, once for each; without it those of all
+      --keys <FILE>       The file of keys: those it accepts, and those it connects with
+      --sites <N>         A site whose operations it accepts from peers; may be repeated; all sites by default
       --workers <N>       How many threads answer ready, state and front, 1 to 6 [default: 2]
-      --pause <MS>        Between two rounds of pulls, 1 to 600000 [default: 1000]
+      --pause <MS>        Milliseconds between two rounds of pulls, 1 to 600000 [default: 1000]
       --sessions <N>      Ends after so many sessions; 0 means no limit [default: 0]
-      --idle <MS>         How long a session that fed nothing may be silent; 0 means no limit [default: 300000]
+      --idle <MS>         Milliseconds of silence after which a session that fed nothing is ended; 0 means no limit [default: 300000]
       --connections <N>   How many connections may be open at once, 1 to 65535 [default: 1024]
-      --until-input-ends  Hears standard input: stop and reload, and stops at its end
+      --until-input-ends  Obeys the lines stop and reload on standard input, and stops when it ends
       --print <WHAT>      What it prints: report, changes or none [default: report]
       --log-time          Begins each line on standard error with the time, in UTC
-      --http <ADDRESS>    Shows itself to browsers at a port on 127.0.0.1, 0 for one that is free, or at a Unix socket
-      --http-host <NAME>  A host name that browsers may use for it, once for each, beside localhost
+      --http <ADDRESS>    Serves web pages at a port on 127.0.0.1 (0 chooses a free one) or at a Unix socket
+      --http-host <NAME>  A host name that browsers may use for it, beside localhost; may be repeated
       --load <FILE>       The snapshot to begin with
       --save <FILE>       The snapshot that is written at the end
-      --journal <FILE>    The journal that keeps what is taken in
+      --journal <FILE>    The journal file, which keeps what is taken in
   -h, --help              Print help
 ",
     ),
     (
         "recover",
-        "Prints the snapshot of a journal, without a line that a crash tore
+        "Prints the snapshot of a journal file, without a line that a crash tore
 
 Usage: reviewgate recover [OPTIONS] <JOURNAL>
 
 Arguments:
-  <JOURNAL>  The journal's file, or - for standard input
+  <JOURNAL>  The journal file, or - for standard input
 
 Options:
-      --without <SITE,START>  Leaves out the operations of a site under a start, once for each such pair
+      --without <SITE,START>  Leaves out the operations of this site under this start; may be repeated
       --until <TIME>          Leaves out the operations whose time is above this
   -h, --help                  Print help
 ",
     ),
     (
         "events",
-        "Feeds what Gerrit writes to a session of a site
+        "Turns Gerrit's events and query answers into session lines, or sends them to a site
 
 Usage: reviewgate events [OPTIONS]
 
 Options:
       --to <ADDRESS>     The site that is fed: a port on 127.0.0.1, the path of a Unix socket, or NAME@HOST:PORT by the key NAME; without it the lines of a session are printed
       --keys <FILE>      The file of keys, which has the key NAME
-      --query            The input is the answer of a query, and has to be whole
-      --complete         The same, and the answer has every open change: those that it lacks are abandoned
-      --project <NAME>   Feeds the changes of this project alone, and of those that are named beside it
-      --projects <FILE>  The file of such names, one a line, or - for standard input; # begins a remark
+      --query            The input is the whole answer to a query
+      --complete         As --query, and the answer has every open change: open changes that it lacks are abandoned
+      --project <NAME>   Feeds only the changes of this project; may be repeated
+      --projects <FILE>  A file of project names, one per line, or - for standard input; # begins a comment
       --gate <GATE>      The gate file whose bases say which changes a Depends-On names, so that unknown ones are asked for
   -h, --help             Print help
 ",
@@ -247,14 +247,14 @@ Options:
 Usage: reviewgate enqueue [OPTIONS] <QUERY>
 
 Arguments:
-  <QUERY>  The answer of gerrit query --format=JSON with the changes' projects
+  <QUERY>  The file with the answer of gerrit query --format=JSON, for each change's project
 
 Options:
       --tenant <TENANT>  Zuul's tenant, for {tenant}
       --pipeline <NAME>  The pipeline's name, for {pipeline}
       --template <TEXT>  What is written for an item, with {tenant} {pipeline} {project} {branch} {change} {set} [default: \"zuul-client enqueue --tenant {tenant} --pipeline {pipeline} --project {project} --change {change},{set}\"]
-      --projects <FILE>  The file of the pipeline's projects, one a line, or - for standard input; # begins a remark
-      --handed <FILE>    The file of the items that were handed over before, as CHANGE,SET, one a line
+      --projects <FILE>  The file of the pipeline's projects, one per line, or - for standard input; # begins a comment
+      --handed <FILE>    The file of the items that were handed over before, as CHANGE,SET, one per line
   -h, --help             Print help
 ",
     ),
