@@ -2,7 +2,8 @@
 
 use super::record::shows;
 use page_routes::{Choice, Kind, Place, Route, Shown, Status};
-use page_text::{SCRIPT, STYLE};
+use page_text::{SCRIPT, STYLE, same_page};
+use std::test::Fail;
 
 /// How the site is.
 const STATUS: &str =
@@ -201,4 +202,15 @@ fn what_never_changes_is_answered(rt: HostRuntime) {
     assert!(rt; is_well);
     assert!(rt; has_style);
     assert!(rt; has_script);
+}
+
+/// Without a record the style has its page, and the figures have none.
+#[test]
+fn what_never_changes_needs_no_record(rt: HostRuntime) -> Result<(), Fail> {
+    let alloc = rt.alloc();
+    let style = same_page(alloc, &Route::Style)?;
+    let figures = same_page(alloc, &Route::Metrics)?;
+    assert!(rt; style.is_some_and(|page| page.body.as_slice() == STYLE.as_bytes()));
+    assert!(rt; figures.is_none());
+    Ok(())
 }

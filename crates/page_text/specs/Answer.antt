@@ -64,6 +64,22 @@ event_text ready out operations =
     codes "retry: 2000\ndata: {\"ready\":" ++ decimal ready ++ codes ",\"out\":" ++ decimal out
     ++ codes ",\"operations\":" ++ decimal operations ++ codes "}\n\n"
 
+-- the page of a route that is the same whatever the record is: that the site is well, the style, the script, the icon
+abbrev pub IsSamePage : Route → Page → Type 0
+IsSamePage route.Health page = IsText Found kind.Plain (codes "ok\n") page
+IsSamePage route.Style page = IsPage Found kind.Style page
+IsSamePage route.Script page = IsPage Found kind.Script page
+IsSamePage route.Icon page = IsPage Found kind.Icon page
+IsSamePage route page = ⊥
+
+-- the page of a route is made of the record
+abbrev pub IsOfRecord : Route → Type 0
+IsOfRecord route.Health = ⊥
+IsOfRecord route.Style = ⊥
+IsOfRecord route.Script = ⊥
+IsOfRecord route.Icon = ⊥
+IsOfRecord route = Unit {0}
+
 -- the answer under a gate, to a record of so many operations with this state and these verdicts
 abbrev pub IsPageAnswer : GateRules → State → ℕ → Judged → Facts → Route → Page → Type 0
 IsPageAnswer gate state operations verdicts facts (route.List choice) page =
@@ -80,7 +96,7 @@ IsPageAnswer gate state operations verdicts facts route.Events page =
     IsText Found kind.Events (event_text (length verdicts.ready) (length verdicts.out) operations) page
 IsPageAnswer gate state operations verdicts facts route.Metrics page =
     IsText Found kind.Metrics (metrics_of gate state operations verdicts facts) page
-IsPageAnswer gate state operations verdicts facts route.Health page = IsText Found kind.Plain (codes "ok\n") page
-IsPageAnswer gate state operations verdicts facts route.Style page = IsPage Found kind.Style page
-IsPageAnswer gate state operations verdicts facts route.Script page = IsPage Found kind.Script page
-IsPageAnswer gate state operations verdicts facts route.Icon page = IsPage Found kind.Icon page
+IsPageAnswer gate state operations verdicts facts route.Health page = IsSamePage route.Health page
+IsPageAnswer gate state operations verdicts facts route.Style page = IsSamePage route.Style page
+IsPageAnswer gate state operations verdicts facts route.Script page = IsSamePage route.Script page
+IsPageAnswer gate state operations verdicts facts route.Icon page = IsSamePage route.Icon page

@@ -1,13 +1,13 @@
 //! What is answered to a route.
 
-ghost use Rattle.std.specs.Prelude.{IfOk, length};
+ghost use Rattle.std.specs.Prelude.{IfOk, MatchOption, length};
 ghost use Rattle.std.specs.List.Sorted.{IsStrictlySortedBy};
 ghost use Rattle.json.specs.Print.{print};
 ghost use Rattle.state_core.specs.Items.{item_cmp};
 ghost use Rattle.state_core.specs.State.{state_of};
 ghost use Rattle.ready_core.specs.Verdicts.{items_out};
-ghost use Rattle.page_text.specs.Answer.{IsPageAnswer, IsItemData, IsItemPage, IsListPage, IsOfItem, IsPage, IsText};
-ghost use Rattle.page_text.specs.Answer.{event_text};
+ghost use Rattle.page_text.specs.Answer.{IsPageAnswer, IsItemData, IsItemPage, IsListPage, IsOfItem, IsOfRecord};
+ghost use Rattle.page_text.specs.Answer.{IsPage, IsSamePage, IsText, event_text};
 ghost use Rattle.page_text.specs.Items.{items_tokens};
 ghost use Rattle.page_text.specs.Metrics.{metrics_of};
 ghost use Rattle.page_text.specs.Problem.{problem_tokens};
@@ -83,10 +83,46 @@ fn answer(
         Route::ChangeData(place) => change_data(alloc, *place, gate, replica.state(), verdicts),
         Route::Events => events_answer(alloc, replica, verdicts),
         Route::Metrics => metrics_answer(alloc, gate, replica, verdicts, facts),
-        Route::Health => fixed(alloc, Kind::Plain, "ok\n"),
-        Route::Style => fixed(alloc, Kind::Style, STYLE),
-        Route::Script => fixed(alloc, Kind::Script, SCRIPT),
-        Route::Icon => fixed(alloc, Kind::Icon, ICON),
+        Route::Health | Route::Style | Route::Script | Route::Icon => same_answer(alloc, route),
+    }
+}
+
+/// The page of a route that is the same whatever the record is: that the site is well, the style, the script and the
+/// icon. None for any other route. Refusal: memory was refused.
+pub fn same_page(alloc: Global, route: &Route) -> Result<Option<Page>, AllocError>
+    ensures { IfOk result (λ found. MatchOption found (IsOfRecord route.now) (IsSamePage route.now)) }
+{
+    let Some((kind, text)) = same_text(route) else {
+        return Ok(None);
+    };
+    match fixed(alloc, kind, text) {
+        Ok(page) => Ok(Some(page)),
+        Err(NoMemory) => Err(AllocError),
+    }
+}
+
+/// The answer to such a route.
+fn same_answer(alloc: Global, route: &Route) -> Result<Page, NoMemory>
+    requires { ¬ IsOfRecord route.now }
+    ensures { IfOk result (IsSamePage route.now) }
+{
+    match same_text(route) {
+        Some((kind, text)) => fixed(alloc, kind, text),
+        None => unreachable!(),
+    }
+}
+
+/// The kind and the text of such a route's page.
+fn same_text(route: &Route) -> Option<(Kind, &'static str)>
+    ensures { MatchOption result (IsOfRecord route.now)
+        (λ found. (page : _) → IsText Status.Found found.0 found.1.now page → IsSamePage route.now page) }
+{
+    match route {
+        Route::Health => Some((Kind::Plain, "ok\n")),
+        Route::Style => Some((Kind::Style, STYLE)),
+        Route::Script => Some((Kind::Script, SCRIPT)),
+        Route::Icon => Some((Kind::Icon, ICON)),
+        _ => None,
     }
 }
 

@@ -74,7 +74,7 @@ mod verdict;
 mod waiting;
 mod words;
 
-pub use answer::page_of;
+pub use answer::{page_of, same_page};
 pub use facts::{Facts, JournalFacts, PeerFacts};
 pub use laws::pages_are_the_report;
 pub use reached::reached_from;
