@@ -14,3 +14,5 @@ mod sealed;
 mod sealed_feeds;
 #[cfg(test)]
 mod site_feeds;
+#[cfg(test)]
+mod withdrawn_keys;

@@ -3,7 +3,7 @@ use Rattle.std.proofs.Common.{◌≡◌, ◌≢◌, ◌<◌, ◌≤◌, Bool, tr
 use Rattle.std.proofs.Common.{arith, subst}
 use Rattle.site_serve.specs.Answered.{GoesOnWith, IsSeatAfter}
 use Rattle.site_serve.specs.declared.jobs.Work.{Work}
-use Rattle.site_serve.specs.declared.jobs.Work.TheVariants.{Admitted, Barred, Entered, Left, Looked}
+use Rattle.site_serve.specs.declared.jobs.Work.TheVariants.{Admitted, Barred, Entered, KeyLookedAt, Left, Looked}
 use Rattle.std.proofs.lemmas.Bool.{ltb-true}
 use Rattle.std.proofs.lemmas.List.{get_or-set_other, get_or-set_same, length-set}
 use Rattle.std.proofs.lemmas.Option.{gets, slice_get-get_or, slice_get_past}
@@ -70,6 +70,8 @@ seat_after outbox_of ends (Admitted admitted) before after last stays goes outbo
     (last, refl, moved (Admitted admitted) _ _ _ _ _ outbox ending goes)
 seat_after outbox_of ends (Barred answer) before after last stays goes outbox ending =
     (last, refl, moved (Barred answer) _ _ _ _ _ outbox ending goes)
+seat_after outbox_of ends (KeyLookedAt role) before after last stays goes outbox ending =
+    (last, refl, moved (KeyLookedAt role) _ _ _ _ _ outbox ending goes)
 seat_after outbox_of ends Entered before after last stays goes outbox ending =
     (last, refl, moved Entered _ _ _ _ _ outbox ending goes)
 seat_after outbox_of ends Left before after last stays goes outbox ending = absurd (stays refl)

@@ -10,4 +10,4 @@ use Rattle.site_serve.specs.Pages.{ShowsMoment, ShowsSite}
 pub with_some_figures : (gate : GateRules) (facts : Facts) (seen : List (List Operation)) (route : Route) (page : Page)
     → ShowsMoment gate facts seen route page → ShowsSite gate seen route page
 with_some_figures gate facts seen route page (inl shown) = inl (facts, shown)
-with_some_figures gate facts seen route page (inr unwell) = inr unwell
+with_some_figures gate facts seen route page (inr unwell) = inr (inr unwell)

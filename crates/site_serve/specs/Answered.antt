@@ -10,7 +10,7 @@ use Rattle.site_serve.specs.declared.ask.Asker.TheVariants.{Puller, Session}
 use Rattle.site_serve.specs.declared.desk.Waiter.{Waiter}
 use Rattle.site_serve.specs.SitePorts.{port_fault_of}
 use Rattle.site_serve.specs.declared.jobs.Work.{Work}
-use Rattle.site_serve.specs.declared.jobs.Work.TheVariants.{Admitted, Barred, Entered, Left, Looked}
+use Rattle.site_serve.specs.declared.jobs.Work.TheVariants.{Admitted, Barred, Entered, KeyLookedAt, Left, Looked}
 use Rattle.site_shared.specs.declared.fault.DeskFault.{DeskFault}
 use Rattle.site_shared.specs.declared.fault.DeskFault.TheVariants.{NoMemory}
 
@@ -29,11 +29,12 @@ SaysHeld (Err fault) old new = SaysFault fault old new
 
 -- what a session is answered, and whether it ends, where a worker's work is done and it doesn't leave: a look's text is
 -- added, or memory is refused for it and the session ends; where it is or isn't let in, what it was answered may be
--- given up
+-- given up; it ends where its key is no more
 abbrev pub GoesOnWith : Work → List ℕ → List ℕ → Bool → Type 0
 GoesOnWith (Looked text answered) old new ends = (new ≡ old ++ text.items) ⊎ ((new ≡ old) × (ends ≡ true))
 GoesOnWith (Admitted admitted) old new ends = (new ≡ old) ⊎ (new ≡ [])
 GoesOnWith (Barred answer) old new ends = (new ≡ old) ⊎ (new ≡ [])
+GoesOnWith (KeyLookedAt role) old new ends = (new ≡ old) × (role ≡ None → ends ≡ true)
 GoesOnWith Entered old new ends = new ≡ old
 GoesOnWith Left old new ends = new ≡ old
 

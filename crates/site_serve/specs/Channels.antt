@@ -1,6 +1,6 @@
 -- What the bytes of a connection go through before they are lines of its session, and what is sent of the answers to
 -- these: nothing, or a seal.
-use Rattle.std.specs.Prelude.{◌≡◌, ℕ, List, [], ◌∷◌, ◌++◌, None, Result, Ok, Err, drop}
+use Rattle.std.specs.Prelude.{◌≡◌, ℕ, List, [], ◌∷◌, ◌++◌, None, Some, Result, Ok, Err, drop}
 use Rattle.gossip_line.specs.declared.fault.LineFault.TheVariants.{NoMemory}
 use Rattle.line_reader.specs.Lines.{HasNoLf}
 use Rattle.sealed_link.specs.Lines.{IsHeldUp, OpensCame, SealsFront, SendsSealed}
@@ -22,15 +22,17 @@ seal_result (Ok done) = Ok done
 seal_result (Err fault) = Err (seal_fault fault)
 
 -- what came comes to what was read of the session: as it is, or the texts of the lines that are sealed in it, up to one
--- that isn't; nothing before the connection was let in, or once it is shut
+-- that isn't; nothing before the connection was let in, after a line that isn't sealed, or once it is shut
 abbrev pub TakesCame : ChannelMode → List ℕ → List ℕ → List ℕ → Result (Unit {0}) SessionFault → ChannelMode → Type 0
 TakesCame Plain came old new (Ok done) after = (new ≡ old ++ came) × (after ≡ Plain)
-TakesCame Plain came old new (Err fault) after = after ≡ Plain
+TakesCame Plain came old new (Err fault) after = (new ≡ old) × (after ≡ Plain)
 TakesCame Locked came old new result after = (new ≡ old) × (after ≡ Locked)
 TakesCame (Sealed w) came old new result after =
     (opened : Wiring) × (after ≡ Sealed opened)
     × (w.fault ≡ None → (text : List ℕ) × (new ≡ old ++ text)
     × ((by : Result (Unit {0}) WireFault) × OpensCame w came text by opened × (result ≡ seal_result by)))
+    × ((fault : WireFault) → w.fault ≡ Some fault
+    → (new ≡ old) × (opened ≡ w) × (result ≡ Err (seal_fault fault)))
 TakesCame Shut came old new result after = (new ≡ old) × (after ≡ Shut)
 
 -- what is sent next where the session was answered this: what is sent as it is, before all else; then the answers, or

@@ -5,6 +5,7 @@ pub mod Fault
 pub mod Inboxes
 pub mod Outboxes
 pub mod Doing
+pub mod LookedAtKeys
 pub mod Looks
 pub mod Pages
 pub mod Answered

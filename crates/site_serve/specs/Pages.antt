@@ -4,7 +4,7 @@ use Rattle.gate_rules.specs.Rules.{GateRules}
 use Rattle.page_routes.specs.declared.page.Page.{Page}
 use Rattle.page_routes.specs.declared.page.Status.TheVariants.{Unavailable}
 use Rattle.page_routes.specs.declared.route.Route.{Route}
-use Rattle.page_text.specs.Answer.{IsPageAnswer}
+use Rattle.page_text.specs.Answer.{IsPageAnswer, IsSamePage}
 use Rattle.page_text.specs.declared.facts.Facts.{Facts}
 use Rattle.ready_core.specs.Verdicts.{AreVerdicts, Judged}
 use Rattle.review_ops.specs.Operation.{Operation}
@@ -26,7 +26,7 @@ IsOfMoment gate facts seen route page =
 abbrev pub ShowsMoment : GateRules → Facts → List (List Operation) → Route → Page → Type 0
 ShowsMoment gate facts seen route page = IsOfMoment gate facts seen route page ⊎ (page.status ≡ Unavailable)
 
--- the same, with some figures of the site
+-- the same, with some figures of the site; or the page is the same whatever the site has
 abbrev pub ShowsSite : GateRules → List (List Operation) → Route → Page → Type 0
 ShowsSite gate seen route page =
-    ((facts : Facts) × IsOfMoment gate facts seen route page) ⊎ (page.status ≡ Unavailable)
+    ((facts : Facts) × IsOfMoment gate facts seen route page) ⊎ (IsSamePage route page ⊎ (page.status ≡ Unavailable))

@@ -4,8 +4,9 @@ use super::channel::Credential;
 use super::errors::Errors;
 use super::jobs::Work;
 use byte_ends::Drain;
-use key_file::KeyFault;
+use key_file::{Key, KeyFault, Role};
 use key_files::KeyReader;
+use sealed_line::KeyId;
 use sealed_link::{Admitted, admit, refusal_line};
 use std::alloc::Global;
 use std::sync::Wait;
@@ -21,7 +22,7 @@ pub struct Admission<'a, T: KeyReader> {
 
 impl<T: KeyReader> Admission<'_, T> {
     /// Lets a connection in if a key of the file is what it asks that by. The file is read at each connection, so that
-    /// one that is withdrawn lets nobody in any more. A file that can't be read is reported, and lets nobody in.
+    /// a key that is withdrawn lets nobody in any more. A file that can't be read is reported, and lets nobody in.
     pub fn answer<R: Wait, E: Drain>(
         &self,
         rt: &R,
@@ -35,6 +36,26 @@ impl<T: KeyReader> Admission<'_, T> {
             Err(fault) => errors.no_keys(rt, alloc, fault, self.keys.unwrap_or("")),
         }
         Work::Barred(refusal_line(alloc).unwrap_or(Vec::new(alloc)))
+    }
+
+    /// What the key of an ID is for now; none where no key of the file has that ID any more. A file that can't be read
+    /// is reported, and has none.
+    pub fn role_now<R: Wait, E: Drain>(
+        &self,
+        rt: &R,
+        alloc: Global,
+        id: KeyId,
+        errors: &Errors<E>,
+    ) -> Work {
+        let name = self.keys.unwrap_or("");
+        let role = match self.reader.keys(name) {
+            Ok(keys) => keys.letting_in(&id).map(Key::role),
+            Err(fault) => {
+                errors.no_keys(rt, alloc, fault, name);
+                None
+            }
+        };
+        Work::KeyLookedAt(role)
     }
 
     /// The secret of the first key of this name.

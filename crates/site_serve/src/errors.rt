@@ -6,6 +6,7 @@ ghost use Rattle.refusal_line.specs.declared.part.Part.TheVariants.{Peer};
 ghost use Rattle.site_address.specs.Peer.{peer_text};
 
 use super::session_fault::SessionFault;
+use super::setup::ServeFault;
 use byte_ends::{Drain, write_all};
 use gossip_line::LineFault;
 use key_file::KeyFault;
@@ -111,6 +112,13 @@ impl<E: Drain> Errors<E> {
     /// Writes that the file of keys isn't there to be used, or a key of it, with the name of the file or of a peer.
     pub fn no_keys(&self, rt: &impl Wait, alloc: Global, fault: KeyFault, name: &str) {
         if let Ok(line) = keys_line(alloc, fault, name) {
+            self.write(rt, line.as_str());
+        }
+    }
+
+    /// Writes why a report couldn't be made.
+    pub fn not_shown(&self, rt: &impl Wait, alloc: Global, fault: ServeFault) {
+        if let Ok(line) = refusal_line(alloc, Part::Serve, fault.number(), fault.name()) {
             self.write(rt, line.as_str());
         }
     }

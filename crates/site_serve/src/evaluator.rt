@@ -48,6 +48,7 @@ const LONGEST_REST_S: u64 = 60;
 pub struct Printed {
     /// Whether all that was to be printed was written.
     pub written: bool,
+    /// Why the last look showed nothing, if it didn't.
     pub fault: Option<ServeFault>,
 }
 
@@ -132,7 +133,8 @@ impl<W: Drain + Drop, J: Naming> Printing<'_, W, J> {
         rest
     }
 
-    /// Prints what is shown, or notes why nothing is.
+    /// Prints what is shown, or notes why nothing is, which is said on the error output unless it was so of the look
+    /// before.
     fn note_shown<R: Wait, E: Drain>(
         &mut self,
         rt: &R,
@@ -140,8 +142,16 @@ impl<W: Drain + Drop, J: Naming> Printing<'_, W, J> {
         errors: &Errors<E>,
     ) {
         match shown {
-            Ok(shown) => self.print(rt, shown, errors),
-            Err(fault) => self.printed.fault = Some(fault),
+            Ok(shown) => {
+                self.printed.fault = None;
+                self.print(rt, shown, errors);
+            }
+            Err(fault) => {
+                if self.printed.fault.is_none() {
+                    errors.not_shown(rt, self.alloc, fault);
+                }
+                self.printed.fault = Some(fault);
+            }
         }
     }
 

@@ -40,8 +40,12 @@ const TICK_MS: u64 = 100;
 /// How many milliseconds are left to write what waits once the site stops.
 const LAST_MS: u64 = 400;
 
-/// How many bytes of answers may wait to be read before no more looks are begun: 256 MiB.
+/// How many bytes of answers may wait to be read before no more reports and states are made: 256 MiB.
 const WAITING_ANSWERS: usize = 268_435_456;
+
+/// How many bytes of a session's count where it is asked whether there is room for what fronts lack: 8 MiB. So few who
+/// read a long state slowly don't hold up those who pull.
+const SHORT_ANSWERS: usize = 8_388_608;
 
 /// How many bytes are read at once.
 const BLOCK: usize = 65_536;
@@ -68,8 +72,9 @@ pub(super) struct EventLoop {
     accepted: u64,
     ended: u64,
     may_accept: bool,
-    /// Whether there was room for the answers of more looks when the clock was looked at.
+    /// Whether there was room for what more fronts lack, and for more reports and states, when the clock was looked at.
     has_room: bool,
+    has_long_room: bool,
     is_woken: bool,
     /// Whether something was published, or is to be, of which no news was brought yet.
     is_news_due: bool,
@@ -120,6 +125,7 @@ impl EventLoop {
             ended: 0,
             may_accept: true,
             has_room: true,
+            has_long_room: true,
             is_woken: false,
             is_news_due: false,
             now: Duration::ZERO,
@@ -185,7 +191,7 @@ impl EventLoop {
         if !self.may_accept || (self.most > 0 && self.accepted >= self.most) {
             return Ok(None);
         }
-        let connection = match &self.listeners {
+        let connection = match &mut self.listeners {
             Some(listeners) => listeners.accept(),
             None => Ok(None),
         };
@@ -279,6 +285,7 @@ impl EventLoop {
                     number: session.number,
                     moment: self.now,
                     has_room: self.has_room,
+                    has_long_room: self.has_long_room,
                     metrics,
                     jobs: &ends.jobs,
                 };
@@ -318,7 +325,8 @@ impl EventLoop {
         }
         self.looked = self.now;
         self.may_accept = true;
-        self.has_room = places.waiting_bytes() <= WAITING_ANSWERS;
+        self.has_room = places.waiting_bytes(SHORT_ANSWERS) <= WAITING_ANSWERS;
+        self.has_long_room = places.waiting_bytes(usize::MAX) <= WAITING_ANSWERS;
         self.end_sessions(places);
     }
 
@@ -442,10 +450,11 @@ fn turn<R: Wait + Clock, J: Opening, K: Keeps, E: Drain>(
         event_loop.take_replies(rt, places, ends);
         hold_pulled(rt, ends, group);
     }
-    event_loop.look_at_clock(places);
     event_loop.do_sessions(rt, site.metrics, places, ends, group);
     publish(rt, site, event_loop, places, ends.answers.as_slice(), group)?;
     event_loop.write_all(rt, places, ends);
+    // After a turn that took long nobody is left whose bytes were there: they are read and written first.
+    event_loop.look_at_clock(places);
     Ok(())
 }
 
@@ -530,11 +539,13 @@ fn end_asks<R: Wait, J: Opening, K: Keeps>(
 {
     let LoopEnds {
         jobs,
-        replies: _,
+        replies,
         asks,
         answers,
     } = ends;
+    // The workers end with what they do now: nobody waits for the rest.
     drop(jobs);
+    drop(replies);
     let mut places = places;
     for ask in asks.iter(rt) {
         group.hold(ask);

@@ -1,9 +1,10 @@
 //! What was read of a session and isn't done yet.
 
-ghost use Rattle.std.specs.Prelude.{◌≡◌, ◌<◌, ◌≤◌, ◌+◌, ◌++◌, [], List, ℕ, MatchBool, MatchOption, None, OnOk, drop, length, take};
+ghost use Rattle.std.specs.Prelude.{◌≡◌, ◌<◌, ◌≤◌, ◌+◌, ◌++◌, [], Err, List, ℕ, MatchBool, MatchOption, None, OnErr, OnOk, Some, drop, length, take};
 ghost use Rattle.byte_ends.specs.Lines.{without_cr};
 ghost use Rattle.line_reader.specs.Lines.{HasFirstLf, HasNoLf};
 ghost use Rattle.sealed_link.specs.Lines.{OpensCame};
+ghost use Rattle.sealed_link.specs.declared.fault.WireFault.{WireFault as AnyFault};
 
 use line_reader::LINE_LIMIT;
 use memchr::memchr;
@@ -85,17 +86,20 @@ impl Inbox {
 
     /// Keeps what came, in place of what is done. Where memory is refused what came is lost.
     pub(super) fn keep(&mut self, came: &[u8]) -> Result<(), AllocError>
-        ensures { OnOk result (self.new ≡ self.old ++ came.now) }
+        ensures ok { OnOk result (self.new ≡ self.old ++ came.now) }
+        ensures err { OnErr result (self.new ≡ self.old) }
     {
         self.drop_done();
         self.bytes.extend_from_slice(came)
     }
 
-    /// Keeps what opens of what came, in place of what is done. What opens is whole lines, so that none is looked at
-    /// twice.
+    /// Keeps what opens of what came, in place of what is done: nothing once the wire has failed. What opens is whole
+    /// lines, so that none is looked at twice.
     pub(super) fn keep_opened(&mut self, wire: &mut Wire, came: &[u8]) -> Result<(), WireFault>
-        ensures { wire.old.fault ≡ None → (text : List ℕ) × (self.new ≡ self.old ++ text)
+        ensures opens { wire.old.fault ≡ None → (text : List ℕ) × (self.new ≡ self.old ++ text)
             × OpensCame wire.old came.now text result wire.new }
+        ensures over { (fault : AnyFault) → wire.old.fault ≡ Some fault
+            → (result ≡ Err fault) × (self.new ≡ self.old) × (wire.new ≡ wire.old) }
     {
         self.drop_done();
         self.scanned = 0;

@@ -5,6 +5,8 @@ use super::opening::OwnWindow;
 use super::session_fault::SessionFault;
 use crossbeam_channel::{Receiver, Sender};
 use gossip_line::{LineFault, Look};
+use key_file::Role;
+use sealed_line::KeyId;
 use sealed_link::Admitted;
 use site_shared::{BrandedReceipt, Naming};
 use std::alloc::Global;
@@ -17,6 +19,8 @@ pub(super) enum Task {
     Enter,
     /// It asks to be admitted.
     Admit(Credential),
+    /// The key that let it in is looked at again.
+    LookAtKey(KeyId),
     /// It asks to look at what the site has.
     Look(Look),
     /// It has ended so.
@@ -41,6 +45,8 @@ pub(super) enum Work {
     Admitted(Admitted),
     /// It isn't let in, and is answered so.
     Barred(Vec<u8>),
+    /// What the key that let it in is for now; none where the site has no such key any more.
+    KeyLookedAt(Option<Role>),
     /// A look is answered so, and the session goes on or not.
     Looked(Vec<u8>, Result<bool, LineFault>),
     /// The session has ended.

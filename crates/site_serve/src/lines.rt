@@ -1,13 +1,15 @@
 //! Does the lines of a session.
 
-ghost use Rattle.std.specs.Prelude.{◌≡◌, ◌⊎◌, ◌<◌, ◌+◌, Bool, IfOk, MatchBool, Ok, Result, drop, length, nat_eq, take, true};
+ghost use Rattle.std.specs.Prelude.{◌≡◌, ◌⊎◌, ◌<◌, ◌+◌, Bool, IfOk, IsSome, MatchBool, Ok, Result, drop, length, nat_eq, take, true};
 ghost use Rattle.std.specs.Arc.{arc_value};
+ghost use Rattle.std.specs.Duration.{as_nanos};
 ghost use Rattle.std.specs.Option.{option_map};
 ghost use Rattle.byte_ends.specs.Lines.{without_cr};
 ghost use Rattle.gossip_line.specs.Texts.{no_memory_line};
 ghost use Rattle.gossip_line.specs.declared.fault.LineFault.{LineFault};
 ghost use Rattle.line_reader.specs.Lines.{HasFirstLf};
 ghost use Rattle.site_serve.specs.Acknowledged.{AddsOwn, session_at};
+ghost use Rattle.site_serve.specs.LookedAtKeys.{due_key};
 ghost use Rattle.site_serve.specs.Outboxes.{Adds};
 ghost use Rattle.review_ops.specs.Draft.{deed_of};
 ghost use Rattle.site_serve.specs.Doing.{DoesBody, DoesLine};
@@ -24,6 +26,7 @@ use crossbeam_channel::Sender;
 use gossip_line::{Look, Saying, Step, is_take, step_of};
 use line_reader::LINE_LIMIT;
 use review_ops::Draft;
+use sealed_line::KeyId;
 use site_ledger::Keeps;
 use site_shared::Naming;
 use std::alloc::{AllocError, Global};
@@ -41,8 +44,9 @@ pub(super) struct LineContext<'a, J: Naming> {
     pub place: usize,
     pub number: u64,
     pub moment: Duration,
-    /// Whether there is room for the answers of more looks.
+    /// Whether there is room for what more fronts lack, and for more reports and states.
     pub has_room: bool,
+    pub has_long_room: bool,
     pub metrics: &'a Metrics,
     pub jobs: &'a Sender<Job<J>, Global>,
 }
@@ -72,7 +76,8 @@ pub(super) fn do_lines<R: Wait, J: Opening, K: Keeps>(
     }
 }
 
-/// Does the next line of a session, or reads on where none is there: false where it has to wait.
+/// Does the next line of a session, or reads on where none is there: false where it has to wait. No line is done before
+/// the session's key is looked at, where that is due.
 #[tactic(auto, using(crate::proofs::Waiting::none_own))]
 fn do_next<R: Wait, J: Opening, K: Keeps>(
     rt: &R,
@@ -84,12 +89,33 @@ fn do_next<R: Wait, J: Opening, K: Keeps>(
     requires room { length group.old.waiters < BATCH }
     ensures own { AddsOwn (session_at context.now.place context.now.number) group.old.waiters group.new.waiters }
     ensures order { 0 < session.old.waiting → session.new.outbox ≡ session.old.outbox }
+    ensures key { IsSome (due_key session.old.key (as_nanos session.old.key_seen) (as_nanos context.now.moment))
+        → group.new ≡ group.old }
     ensures waits { 0 < session.old.waiting → 0 < session.new.waiting }
 {
-    match session.inbox.next_line() {
-        Some(size) => do_line(rt, context, session, group, size),
-        None => read_on(rt, context, buffer, session),
+    let Some(size) = session.inbox.next_line() else {
+        return read_on(rt, context, buffer, session);
+    };
+    match session.due_key(context.moment) {
+        Some(key) => {
+            look_at_key(rt, context, session, key);
+            false
+        }
+        None => do_line(rt, context, session, group, size),
     }
+}
+
+/// Has a worker look at the key that let a session in.
+fn look_at_key<R: Wait, J: Naming>(
+    rt: &R,
+    context: &LineContext<'_, J>,
+    session: &mut Session<J>,
+    key: KeyId,
+)
+    ensures { (session.new.outbox ≡ session.old.outbox) × (session.new.waiting ≡ session.old.waiting) }
+{
+    session.go_away();
+    send_task(rt, context, Task::LookAtKey(key));
 }
 
 /// Reads on, where no line is there. Whether something came.
@@ -130,12 +156,17 @@ fn ask_for<R: Wait, J: Naming>(
 )
     ensures { (session.new.outbox ≡ session.old.outbox) × (session.new.waiting ≡ session.old.waiting) }
 {
-    session.go_away();
+    session.ask_by(credential);
+    send_task(rt, context, Task::Admit(credential));
+}
+
+/// Gives a worker a task of the session that looks at nothing of the site's.
+fn send_task<R: Wait, J: Naming>(rt: &R, context: &LineContext<'_, J>, task: Task) {
     let job = Job {
         place: context.place,
         session: context.number,
         receipt: None,
-        task: Task::Admit(credential),
+        task,
     };
     let _sent = context.jobs.send(rt, job);
 }
@@ -183,14 +214,14 @@ fn do_line<R: Wait, J: Opening, K: Keeps>(
         Step::Takes(draft) => take_body(context, session, group, draft, size),
         _ if session.is_waiting() => false,
         Step::Says(saying) => {
-            if saying == Saying::Noted {
+            if saying == Saying::Noted && session.may_take() {
                 context.metrics.note_heard(context.moment);
             }
             session.say(context.alloc, saying);
             session.pass(size);
             true
         }
-        Step::Looks(_) if !context.has_room => {
+        Step::Looks(look) if !has_room_for(context, &look) => {
             session.hold_back();
             false
         }
@@ -198,6 +229,14 @@ fn do_line<R: Wait, J: Opening, K: Keeps>(
             begin_look(rt, context, session, look, size);
             true
         }
+    }
+}
+
+/// Whether there is room for the answer of a look.
+fn has_room_for<J: Naming>(context: &LineContext<'_, J>, look: &Look) -> bool {
+    match look {
+        Look::Missing(_) => context.has_room,
+        Look::Ready | Look::State => context.has_long_room,
     }
 }
 

@@ -22,6 +22,8 @@ enum Polled {
 #[derive(Drop)]
 pub(super) struct Listeners {
     all: Vec<Polled>,
+    /// The place of the one that was asked last.
+    last: usize,
 }
 
 impl Listeners {
@@ -37,13 +39,16 @@ impl Listeners {
             let listener = registered(poll, token, listener)?;
             all.push(listener)?;
         }
-        Ok(Listeners { all })
+        Ok(Listeners { all, last: 0 })
     }
 
-    /// The next connection that waits at any of them, if one does. It fails where the system refuses one that waits,
-    /// as it does where no descriptor is left.
-    pub(super) fn accept(&self) -> io::Result<Option<Connection>> {
-        for listener in &self.all {
+    /// The next connection that waits at any of them, if one does; they are asked in turn, from the one after the last.
+    /// It fails where the system refuses one that waits, as it does where no descriptor is left.
+    pub(super) fn accept(&mut self) -> io::Result<Option<Connection>> {
+        for _listener in 0..self.all.len() {
+            let Some(listener) = self.next() else {
+                return Ok(None);
+            };
             match accepted(listener) {
                 Ok(connection) => return Ok(Some(connection)),
                 Err(error) => {
@@ -54,6 +59,13 @@ impl Listeners {
             }
         }
         Ok(None)
+    }
+
+    /// The one after that which was asked last.
+    fn next(&mut self) -> Option<&Polled> {
+        let next = self.last.saturating_add(1);
+        self.last = if next < self.all.len() { next } else { 0 };
+        self.all.get(self.last)
     }
 }
 

@@ -31,7 +31,8 @@ use site_shared::{BrandedReceipt, Naming};
 use std::alloc::Global;
 use std::sync::{Arc, Wait};
 
-/// Does the jobs of sessions until no more come, each under the gate that is in force when it begins.
+/// Does the jobs of sessions until no more come or nobody takes what was done, each under the gate that is in force when
+/// it begins.
 pub(super) fn do_jobs<R: Wait, E: Drain, T: Turn, J: Naming>(
     rt: &R,
     alloc: Global,
@@ -52,7 +53,9 @@ pub(super) fn do_jobs<R: Wait, E: Drain, T: Turn, J: Naming>(
     for job in jobs.iter(rt) {
         port.follow();
         let reply = done(rt, alloc, admission, job, &mut port, metrics, errors, turn);
-        let _sent = replies.send(rt, reply);
+        if replies.send(rt, reply).is_err() {
+            return;
+        }
         let _woken = waker.wake();
     }
 }
@@ -107,6 +110,7 @@ fn worked<R: Wait, E: Drain, T: Turn, J: Naming>(
     match task {
         Task::Enter => entered(turn, session),
         Task::Admit(credential) => admission.answer(rt, alloc, credential, errors),
+        Task::LookAtKey(id) => admission.role_now(rt, alloc, id, errors),
         Task::Look(look) => noted(alloc, &look, receipt, port, metrics),
         Task::Leave(ended) => left(rt, alloc, session, ended, metrics, errors, turn),
     }

@@ -16,6 +16,10 @@ use std::alloc::{AllocError, Global};
 use std::marker::Model;
 use std::mem;
 
+/// How many bytes that were sent are kept at most beside those that wait, where these are fewer, and for how many bytes
+/// there is room where none waits.
+const KEPT: usize = 65_536;
+
 /// The bytes that a session was answered and that weren't sent yet. Contracts see these bytes.
 #[derive(Drop)]
 pub(super) struct Outbox {
@@ -106,7 +110,7 @@ impl Outbox {
         self.answers.extend_from_slice(text.as_slice())
     }
 
-    /// Notes that so many bytes were sent.
+    /// Notes that so many bytes were sent. It costs O(1) for each of them.
     pub(super) fn note_sent(&mut self, count: usize)
         requires { count ≤ length self.old }
         ensures { self.new ≡ drop count self.old }
@@ -114,14 +118,25 @@ impl Outbox {
         self.sent += count;
         if self.answers.len() <= self.sent {
             self.clear();
+        } else if self.sent >= KEPT && self.sent >= self.answers.len() - self.sent {
+            self.drop_sent();
         }
     }
 
-    /// Gives up what waits to be sent.
+    /// Gives up what was sent.
+    fn drop_sent(&mut self)
+        ensures { self.new ≡ self.old }
+    {
+        self.answers.drain(..self.sent);
+        self.sent = 0;
+    }
+
+    /// Gives up what waits to be sent, and the room that long answers had.
     pub(super) fn clear(&mut self)
         ensures { self.new ≡ [] }
     {
         self.answers.clear();
+        self.answers.shrink_to(KEPT);
         self.sent = 0;
     }
 }

@@ -17,7 +17,7 @@ use super::ruling::Ruling;
 use gate_rules::Gate;
 use page_routes::{Kind, Page, Route, Status};
 use page_server::{PageEndpoint, Pages, serve_pages};
-use page_text::{Facts, JournalFacts, PeerFacts, page_of};
+use page_text::{Facts, JournalFacts, PeerFacts, page_of, same_page};
 use ready_core::Verdicts;
 use replica_core::Replica;
 use site_address::PeerAddress;
@@ -106,11 +106,14 @@ impl<R: Wait + Clock, J: Naming> Pages for SitePages<'_, R, J> {
 
     fn page(&mut self, route: &Route) -> Result<Page, AllocError> {
         self.requests = self.requests.saturating_add(1);
-        let now = self.awaited();
-        if matches!(route, Route::Health) && self.is_asleep(now) {
+        if matches!(route, Route::Health) && self.is_asleep() {
             let page = unwell(self.context.alloc, "the desk takes no turn\n")?;
             return Ok(page);
         }
+        if let Some(same) = same_page(self.context.alloc, route)? {
+            return Ok(same);
+        }
+        let now = self.awaited();
         let facts = self.facts(now)?;
         let shown = self.show(route, &facts);
         self.next = next_look(self.context.rt, self.context.metrics, now);
@@ -189,8 +192,12 @@ impl<R: Wait + Clock, J: Naming> SitePages<'_, R, J> {
     }
 
     /// Whether the desk has taken no turn for a second.
-    fn is_asleep(&self, now: Duration) -> bool {
-        self.context.metrics.since_turn(now) > Duration::from_millis(ASLEEP_MS)
+    fn is_asleep(&self) -> bool {
+        let PageContext { rt, metrics, .. } = &self.context;
+        match metrics.now(*rt) {
+            Some(now) => metrics.since_turn(now) > Duration::from_millis(ASLEEP_MS),
+            None => false,
+        }
     }
 
     /// What is known of the site beside its record.

@@ -184,11 +184,11 @@ impl<J: Naming> Places<J> {
         true
     }
 
-    /// How many bytes of answers wait to be read.
-    pub(super) fn waiting_bytes(&self) -> usize {
+    /// How many bytes of answers wait to be read, of each session so many at most.
+    pub(super) fn waiting_bytes(&self, most: usize) -> usize {
         let mut bytes = 0usize;
         for session in self.sessions.iter().flatten() {
-            bytes = bytes.saturating_add(session.outbox.len());
+            bytes = bytes.saturating_add(session.outbox.len().min(most));
         }
         bytes
     }
@@ -288,6 +288,7 @@ fn go_on<J: Naming>(session: &mut Session<J>, work: Work, now: Duration)
         Work::Entered => session.come_back(),
         Work::Admitted(admitted) => session.let_in(admitted, now),
         Work::Barred(answer) => session.keep_out(answer),
+        Work::KeyLookedAt(role) => session.take_role(role, now),
         Work::Looked(text, answered) => session.take_text(text, answered),
         Work::Left => {}
     }

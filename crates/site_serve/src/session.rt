@@ -3,6 +3,7 @@
 ghost use Rattle.std.specs.Prelude.{◌≡◌, ◌⊎◌, ◌↔◌, ◌<◌, ◌≤◌, ◌+◌, ◌-◌, ◌++◌, [], Bool, Err, IfErr, IfOk, IfSome, IsTrue, MatchBool, MatchOption, None, Ok, Result, Some, drop, is_some, length, nat_eq, not, true};
 ghost use Rattle.key_file.specs.declared.key.Role.TheVariants.{Feed};
 ghost use Rattle.std.specs.Arc.{arc_value};
+ghost use Rattle.std.specs.Duration.{as_nanos};
 ghost use Rattle.std.specs.Option.{option_map};
 ghost use Rattle.gossip_line.specs.Steps.{answer_of};
 ghost use Rattle.gossip_line.specs.Texts.{answer_text, long_line, next_of, refusal_line, reply_text, stamp_line};
@@ -10,6 +11,7 @@ ghost use Rattle.gossip_line.specs.declared.fault.LineFault.{LineFault};
 ghost use Rattle.site_port.specs.Ports.{reply_by, stamped};
 ghost use Rattle.site_serve.specs.Answered.{SaysFault, SaysStamp};
 ghost use Rattle.site_serve.specs.Channels.{IsSent, outgoing_of};
+ghost use Rattle.site_serve.specs.LookedAtKeys.{due_key};
 ghost use Rattle.site_serve.specs.Outboxes.{Adds};
 ghost use Rattle.site_serve.specs.SitePorts.{port_fault_of};
 
@@ -24,6 +26,7 @@ use key_file::Role;
 use memchr::memchr;
 use mio::net::TcpStream;
 use review_ops::Stamp;
+use sealed_line::KeyId;
 use sealed_link::Admitted;
 use site_net::{Awaited, Patience};
 use site_port::PortFault;
@@ -37,6 +40,13 @@ use std::time::Duration;
 
 /// How many bytes of answers may wait to be written before no more lines are answered.
 const WAITING_BYTES: usize = 1_048_576;
+
+/// For how long a key that let a session in needn't be looked at again, in nanoseconds: a second.
+const KEY_NANOS: u128 = 1_000_000_000;
+
+/// How many times as long as another one a session may be silent that has had a body taken in, or refused: by default a
+/// day.
+const FED: u32 = 288;
 
 /// How many lines a session may have.
 const LINES: u64 = 1_000_000;
@@ -61,6 +71,9 @@ pub(super) struct Session<J: Naming> {
     channel: Channel,
     /// Whether it may have bodies taken in.
     may_take: bool,
+    /// The key that it asked to be let in by, and when that was looked at last.
+    key: Option<KeyId>,
+    key_seen: Duration,
     /// What was read of it and isn't done yet.
     pub inbox: Inbox,
     /// What it was answered and isn't sent yet.
@@ -71,7 +84,7 @@ pub(super) struct Session<J: Naming> {
     receipt: Option<Arc<BrandedReceipt<J>, Global>>,
     /// How many takes wait for their publish.
     waiting: usize,
-    /// Whether it has had a body taken in, or refused: then it may be silent for as long as it will.
+    /// Whether it has had a body taken in, or refused: then it may be silent for longer.
     has_taken: bool,
     /// Whether a worker has a line of it.
     is_away: bool,
@@ -110,6 +123,8 @@ impl<J: Naming> Session<J> {
             stream,
             channel: Channel::new(alloc, is_locked),
             may_take: !is_locked,
+            key: None,
+            key_seen: now,
             inbox: Inbox::new(alloc),
             outbox: Outbox::new(alloc),
             lines: 0,
@@ -422,7 +437,7 @@ impl<J: Naming> Session<J> {
                 Err(error) => {
                     match error.kind() {
                         ErrorKind::WouldBlock => {}
-                        ErrorKind::Interrupted => {}
+                        ErrorKind::Interrupted => self.takes_more = true,
                         _ => self.fail(LineFault::WriteFault),
                     }
                     return;
@@ -488,7 +503,8 @@ impl<J: Naming> Session<J> {
         if self.is_away || self.is_held_back || self.waiting > 0 || self.ending.is_some() {
             return;
         }
-        let idle = if self.has_taken { None } else { patience.idle };
+        let times = if self.has_taken { FED } else { 1 };
+        let idle = patience.idle.map(|idle| idle.saturating_mul(times));
         let patience = Patience { idle, ..patience };
         let waited = now.saturating_sub(self.since);
         if patience.is_over(self.awaited, waited) {
@@ -511,6 +527,43 @@ impl<J: Naming> Session<J> {
         self.channel.credential()
     }
 
+    /// Waits for a worker to look whether it is let in by this.
+    pub(super) fn ask_by(&mut self, credential: Credential)
+        ensures { (self.new.outbox ≡ self.old.outbox) × (self.new.waiting ≡ self.old.waiting) }
+    {
+        if let Credential::Key(greeting) = credential {
+            self.key = Some(greeting.id);
+        }
+        self.go_away();
+    }
+
+    /// The key that let it in, where that has to be looked at before a line of it is done: once a second has passed
+    /// since it was looked at last.
+    pub(super) fn due_key(&self, now: Duration) -> Option<KeyId>
+        ensures { result ≡ due_key self.now.key (as_nanos self.now.key_seen) (as_nanos now) }
+    {
+        if KEY_NANOS <= now.saturating_sub(self.key_seen).as_nanos() {
+            self.key
+        } else {
+            None
+        }
+    }
+
+    /// Has from now on the role of the key that let it in, and ends where the site has no such key any more.
+    pub(super) fn take_role(&mut self, role: Option<Role>, now: Duration)
+        ensures role { IsTrue self.new.may_take ↔ role ≡ Some Feed }
+        ensures seen { self.new.key_seen ≡ now }
+        ensures outbox { self.new.outbox ≡ self.old.outbox }
+        ensures ends { role ≡ None → is_some self.new.ending ≡ true }
+    {
+        if role.is_none() {
+            self.end_as(Err(SessionFault::NoKey));
+        }
+        self.is_away = false;
+        self.key_seen = now;
+        self.may_take = matches!(role, Some(Role::Feed));
+    }
+
     /// Is let in by a key: its lines are sealed from now on, the first of which has the time that a first line has.
     pub(super) fn let_in(&mut self, admitted: Admitted, now: Duration)
         ensures role { IsTrue self.new.may_take ↔ admitted.role ≡ Feed }
@@ -522,6 +575,7 @@ impl<J: Naming> Session<J> {
         }
         self.is_away = false;
         self.may_take = role == Role::Feed;
+        self.key_seen = now;
         self.since = now;
         self.awaited = Awaited::FirstLine;
     }

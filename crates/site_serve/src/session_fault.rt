@@ -12,7 +12,7 @@ pub(super) enum SessionFault {
     Line(LineFault),
     /// 10: a line isn't sealed as it has to be, or is too long.
     BadSeal,
-    /// 11: the first line names no key of the site's.
+    /// 11: the first line names no key of the site's, or the key that it names is no more one of them.
     NoKey,
 }
 

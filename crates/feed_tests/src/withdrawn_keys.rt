@@ -1,0 +1,101 @@
+//! Keys that are withdrawn, or given another role, while a session goes on that they let in.
+
+use super::sealed::{SystemHost, keyed, run_sealed};
+use byte_ends::{Ends, Source, read_all, write_all};
+use running_sites::{FEEDER, listening, make_keys};
+use sealed_link::dialed;
+use std::alloc::Global;
+use std::net::{Net, Shutdown, TcpListener, TcpStream};
+use std::rt::Files;
+use std::sync::Wait;
+use std::test::Fail;
+use std::time::{Clock, Duration};
+use std::{fs, io, thread};
+
+/// A file of keys that lacks the feeder's.
+const WITHDRAWN: &str =
+    "reader read 0202020202020202020202020202020202020202020202020202020202020202\n";
+
+/// A file of keys in which the feeder's may only read.
+const READS: &str =
+    "feeder read 0101010101010101010101010101010101010101010101010101010101010101\n";
+
+/// The next lines of a source, so many, with their line ends; fewer where it ends before.
+fn next_lines<S: Source>(alloc: Global, source: &mut S, count: usize) -> io::Result<Vec<u8>> {
+    let mut text = Vec::new(alloc);
+    let mut byte = [0];
+    let mut lines = 0;
+    while lines < count {
+        match source.read(&mut byte) {
+            Ok(1) => text.push(byte[0])?,
+            _ => return Ok(text),
+        }
+        if byte[0] == b'\n' {
+            lines += 1;
+        }
+    }
+    Ok(text)
+}
+
+/// What a session of the feeder is answered that has a body taken in, sees the file of keys become this, and asks a
+/// second later for another body, and for what may be enqueued.
+fn feed_across<R>(rt: &R, alloc: Global, port: u16, name: &str, keys: &str) -> io::Result<String>
+where
+    R: Net<Listener = TcpListener, Stream = TcpStream> + Files + Clock + Wait,
+{
+    let stream = TcpStream::connect(rt, ("127.0.0.1", port))?;
+    let source = Ends::new(stream.try_clone()?);
+    let drain = Ends::new(stream.try_clone()?);
+    let Ok((mut source, mut drain)) = dialed(alloc, &FEEDER, 0, [7; 16], source, drain) else {
+        return Ok(String::new(alloc));
+    };
+    let _first = write_all(
+        &mut drain,
+        b"hello 2\ntake {\"change\":7,\"op\":\"merged\"}\n",
+    );
+    let mut answers = next_lines(alloc, &mut source, 2)?;
+    fs::write(rt, name, keys)?;
+    thread::sleep(rt, Duration::from_millis(1_100));
+    let _second = write_all(
+        &mut drain,
+        b"take {\"change\":8,\"op\":\"merged\"}\nready\nquit\n",
+    );
+    stream.shutdown(Shutdown::Write)?;
+    let later = read_all(alloc, &mut source, 1_048_576).unwrap_or(Vec::new(alloc));
+    answers.extend_from_slice(later.as_slice())?;
+    Ok(String::from_utf8(answers).unwrap_or(String::new(alloc)))
+}
+
+/// A session whose key is withdrawn is answered nothing more, has nothing taken in, and is reported. One whose key may
+/// only read from then on is shown all, and has nothing taken in.
+#[test]
+fn a_key_that_is_withdrawn_ends_its_session(rt: HostRuntime) -> Result<(), Fail> {
+    let alloc = rt.alloc();
+    let rows = [
+        (
+            WITHDRAWN,
+            "hello 2\nok 1,1,1,1\n",
+            "reviewgate: session 11 NoKey 1\n",
+        ),
+        (
+            READS,
+            "hello 2\nok 1,1,1,1\nno 11 NotAllowed\nend 0 0\nbye\n",
+            "",
+        ),
+    ];
+    for (keys, wanted, reported) in rows {
+        make_keys(&rt, "withdrawn.tmp", 0o600)?;
+        let (listener, port) = listening(&rt)?;
+        let setup = keyed(alloc, 1, 1, "withdrawn.tmp")?;
+        let (ran, answers) = thread::join(
+            &rt,
+            || run_sealed(&rt, alloc, listener, setup, &SystemHost::new(rt)),
+            || feed_across(&rt, alloc, port, "withdrawn.tmp", keys),
+        );
+        let (count, errors) = ran?;
+        assert_eq!(rt; answers?.as_str(), wanted);
+        assert_eq!(rt; (count, errors.as_str()), (1, reported));
+    }
+    fs::remove_file(&rt, "withdrawn.tmp")?;
+    Ok(())
+}
