@@ -20,18 +20,20 @@ const WITHDRAWN: &str =
 const READS: &str =
     "feeder read 0101010101010101010101010101010101010101010101010101010101010101\n";
 
-/// The next lines of a source, so many, with their line ends; fewer where it ends before.
-fn next_lines<S: Source>(alloc: Global, source: &mut S, count: usize) -> io::Result<Vec<u8>> {
+/// The most bytes that are read of two lines.
+const MOST_BYTES: usize = 200;
+
+/// The next two lines of a source, with their line ends; less where it ends before.
+fn next_lines<S: Source>(alloc: Global, source: &mut S) -> io::Result<Vec<u8>> {
     let mut text = Vec::new(alloc);
     let mut byte = [0];
-    let mut lines = 0;
-    while lines < count {
+    for _byte in 0..MOST_BYTES {
         match source.read(&mut byte) {
             Ok(1) => text.push(byte[0])?,
             _ => return Ok(text),
         }
-        if byte[0] == b'\n' {
-            lines += 1;
+        if text.iter().filter(|byte| **byte == b'\n').count() == 2 {
+            return Ok(text);
         }
     }
     Ok(text)
@@ -53,7 +55,7 @@ where
         &mut drain,
         b"hello 2\ntake {\"change\":7,\"op\":\"merged\"}\n",
     );
-    let mut answers = next_lines(alloc, &mut source, 2)?;
+    let mut answers = next_lines(alloc, &mut source)?;
     fs::write(rt, name, keys)?;
     thread::sleep(rt, Duration::from_millis(1_100));
     let _second = write_all(
