@@ -18,3 +18,5 @@ mod restarts;
 mod shown;
 #[cfg(test)]
 mod sockets;
+#[cfg(test)]
+mod unread_errors;

@@ -7,7 +7,7 @@ use super::programs::{
     serve_input, serve_with,
 };
 use super::sockets::bits_of;
-use byte_ends::{Ends, Source};
+use byte_ends::{Drain, Ends, Source};
 use console::Named;
 use key_files::NoKeys;
 use record_pull::SystemFiles;
@@ -153,10 +153,12 @@ fn nothing_is_left_beside_a_folder(rt: HostRuntime) {
     assert_found(&rt, (is_given, are_removed), (true, (true, true)));
 }
 
-/// A site doesn't run whose snapshot couldn't be saved: where a folder is, or where no folder is.
+/// A site doesn't run whose snapshot couldn't be saved: where a folder is, or beside a folder that has the name of the
+/// file that is written first, or where no folder is.
 #[test]
 fn a_site_that_could_not_be_saved_does_not_run(rt: HostRuntime) {
-    for name in [".", "no/such/folder/record.snapshot"] {
+    let is_made = fs::create_dir(&rt, "./full.tmp.new").is_ok();
+    for name in [".", "./full.tmp", "no/such/folder/record.snapshot"] {
         let words = Words {
             sockets: &["./no/such/folder/socket"],
             save: Some(name),
@@ -165,6 +167,8 @@ fn a_site_that_could_not_be_saved_does_not_run(rt: HostRuntime) {
         let ended = serve_input(rt, words, SystemFiles::new(rt));
         assert_found(&rt, ended, Way::Program(ProgramFault::NoSave));
     }
+    let is_gone = fs::remove_dir(&rt, "./full.tmp.new").is_ok();
+    assert_found(&rt, (is_made, is_gone), (true, true));
 }
 
 /// An input that says `stop`, and then nothing for 20 seconds.
@@ -187,16 +191,22 @@ impl<R: Clock> Read for SaysStop<R> {
 }
 
 /// How a site ends with its input, and whether that takes less than 15 seconds.
-fn serve_quickly<R, I, N>(rt: R, words: Words, input: I, files: N) -> Option<(Way, bool)>
+pub fn serve_quickly<R, I, N, E>(
+    rt: R,
+    words: Words,
+    input: I,
+    files: N,
+    errors: E,
+) -> Option<(Way, bool)>
 where
     R: Net<Listener = TcpListener, Stream = TcpStream> + RandomSource,
     R: Files<File = File> + Print + Threads + Wait + Clock + AllocGlobal,
     R: Copy + Send + Sync + 'static,
     N: Named + Send + Drop + 'static,
     I: Source + Send + Drop + 'static,
+    E: Drain + Send + Drop + 'static,
 {
     let began = Instant::now(&rt).ok()?;
-    let errors = Ends::new(Vec::new(rt.alloc()));
     let ended = serve_with(rt, words, input, files, errors, &NoKeys);
     let took = began.elapsed(&rt).ok()?;
     Some((ended, took < Duration::from_secs(15)))
@@ -211,7 +221,8 @@ fn a_line_stop_ends_a_site(rt: HostRuntime) {
         ..UNTIL_INPUT_ENDS
     };
     let input = Ends::new(SaysStop { rt, is_said: false });
-    let found = serve_quickly(rt, words, input, SystemFiles::new(rt));
+    let errors = Ends::new(Vec::new(rt.alloc()));
+    let found = serve_quickly(rt, words, input, SystemFiles::new(rt), errors);
     assert_found(&rt, found, Some((Way::Well, true)));
     assert_found(&rt, (is_given, is_removed(&rt, "gate.tmp")), (true, true));
 }

@@ -9,19 +9,19 @@ use site_serve::{Reloads, ServeFault};
 use std::alloc::{AllocError, Global};
 use std::sync::{Arc, Wait};
 use std::thread::Threads;
+use std::time::Clock;
 
 /// The wish to stop, the gates that are put in force, and the error output.
 #[derive(Drop)]
-pub struct Heard<R, E> {
+pub struct Heard<R> {
     pub stop: Arc<Stop, Global>,
     pub reloads: Arc<Reloads, Global>,
-    pub errors: SharedErrors<R, E>,
+    pub errors: SharedErrors<R>,
 }
 
-impl<R: Wait + Copy, E: Drain + Drop> Heard<R, E> {
+impl<R: Wait + Clock + Copy> Heard<R> {
     /// Nobody wishes that the site stops, and no gate but its first is in force.
-    pub fn new(rt: R, alloc: Global, errors: E) -> Result<Heard<R, E>, AllocError> {
-        let errors = SharedErrors::new(rt, alloc, errors)?;
+    pub fn new(alloc: Global, errors: SharedErrors<R>) -> Result<Heard<R>, AllocError> {
         let stop = Arc::new(alloc, Stop::new()).map_err(|_| AllocError)?;
         let reloads = Arc::new(alloc, Reloads::new()).map_err(|_| AllocError)?;
         Ok(Heard {
@@ -37,7 +37,7 @@ impl<R: Wait + Copy, E: Drain + Drop> Heard<R, E> {
         alloc: Global,
         gate: &str,
         files: N,
-    ) -> Result<Asked<R, N, E>, AllocError> {
+    ) -> Result<Asked<R, N>, AllocError> {
         let stop = Arc::try_clone(&self.stop)?;
         let reloads = Arc::try_clone(&self.reloads)?;
         let gate = String::from_str(alloc, gate)?;
@@ -62,16 +62,14 @@ pub fn hear<R, I, N, E>(
     input: I,
     files: N,
     errors: E,
-) -> Result<Heard<R, E>, ServeFault>
+) -> Result<Heard<R>, ServeFault>
 where
-    R: Threads + Wait + Copy + Send + 'static,
+    R: Threads + Wait + Clock + Copy + Send + 'static,
     I: Source + Send + Drop + 'static,
     N: Named + Send + Drop + 'static,
     E: Drain + Send + Drop + 'static,
 {
-    let Ok(heard) = Heard::new(rt, alloc, errors) else {
-        return Err(ServeFault::NoMemory);
-    };
+    let heard = heard_over(rt, alloc, errors)?;
     if !until_input_ends {
         return Ok(heard);
     }
@@ -81,20 +79,32 @@ where
     }
 }
 
+/// What a site shares with the thread that hears its input, over this error output.
+fn heard_over<R, E>(rt: R, alloc: Global, errors: E) -> Result<Heard<R>, ServeFault>
+where
+    R: Threads + Wait + Clock + Copy + Send + 'static,
+    E: Drain + Send + Drop + 'static,
+{
+    match SharedErrors::new(rt, alloc, errors) {
+        Ok(Some(errors)) => Heard::new(alloc, errors).map_err(|_| ServeFault::NoMemory),
+        Ok(None) => Err(ServeFault::NoPlace),
+        Err(_) => Err(ServeFault::NoMemory),
+    }
+}
+
 /// Has a thread hear what the lines of the input ask for.
-fn begin<R, I, N, E>(
+fn begin<R, I, N>(
     rt: R,
     alloc: Global,
     gate: &str,
     input: I,
     files: N,
-    heard: &Heard<R, E>,
+    heard: &Heard<R>,
 ) -> Result<(), ServeFault>
 where
-    R: Threads + Wait + Copy + Send + 'static,
+    R: Threads + Wait + Clock + Copy + Send + 'static,
     I: Source + Send + Drop + 'static,
     N: Named + Send + Drop + 'static,
-    E: Drain + Send + Drop + 'static,
 {
     match heard.asked(alloc, gate, files) {
         Ok(asked) => begin_by(rt, alloc, input, asked),
@@ -103,17 +113,11 @@ where
 }
 
 /// Has a thread do what the lines of the input ask for.
-fn begin_by<R, I, N, E>(
-    rt: R,
-    alloc: Global,
-    input: I,
-    asked: Asked<R, N, E>,
-) -> Result<(), ServeFault>
+fn begin_by<R, I, N>(rt: R, alloc: Global, input: I, asked: Asked<R, N>) -> Result<(), ServeFault>
 where
-    R: Threads + Wait + Copy + Send + 'static,
+    R: Threads + Wait + Clock + Copy + Send + 'static,
     I: Source + Send + Drop + 'static,
     N: Named + Send + Drop + 'static,
-    E: Drain + Send + Drop + 'static,
 {
     let Ok(lines) = lines_of_input(alloc) else {
         return Err(ServeFault::NoMemory);

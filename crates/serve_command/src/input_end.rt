@@ -18,6 +18,7 @@ use std::alloc::{AllocError, Global};
 use std::sync::{Arc, Wait};
 use std::thread;
 use std::thread::Threads;
+use std::time::Clock;
 
 /// The most bytes of a line that is looked at.
 const LINE_LIMIT: usize = 1024;
@@ -38,12 +39,12 @@ pub enum Wish {
 /// What the lines of the input are about: the wish to stop, the gates that are put in force, the name of the gate file,
 /// what it is read by, and where a gate file that is refused is reported.
 #[derive(Drop)]
-pub struct Asked<R, N, E> {
+pub struct Asked<R, N> {
     pub stop: Arc<Stop, Global>,
     pub reloads: Arc<Reloads, Global>,
     pub gate: String,
     pub files: N,
-    pub errors: SharedErrors<R, E>,
+    pub errors: SharedErrors<R>,
 }
 
 /// What lines are read with.
@@ -54,29 +55,27 @@ pub fn lines_of_input(alloc: Global) -> Result<LineReader, AllocError> {
 /// Has a thread of its own hear what the lines of the input ask for: at a line `reload` the gate file is read again,
 /// and at a line `stop`, or at the end of the input, the site is asked to stop. Nobody waits for that thread. Whether
 /// the system gave it.
-pub fn hear_input<R, I, N, E>(
+pub fn hear_input<R, I, N>(
     rt: R,
     alloc: Global,
     lines: LineReader,
     input: I,
-    asked: Asked<R, N, E>,
+    asked: Asked<R, N>,
 ) -> bool
 where
-    R: Threads + Wait + Copy + Send + 'static,
+    R: Threads + Wait + Clock + Copy + Send + 'static,
     I: Source + Send + Drop + 'static,
     N: Named + Send + Drop + 'static,
-    E: Drain + Send + Drop + 'static,
 {
     thread::spawn(&rt, move || heed(rt, alloc, lines, input, asked)).is_ok()
 }
 
 /// Does what the lines of the input ask for, to its end or the line `stop`, and then asks the site to stop.
-fn heed<R, I, N, E>(rt: R, alloc: Global, lines: LineReader, input: I, asked: Asked<R, N, E>)
+fn heed<R, I, N>(rt: R, alloc: Global, lines: LineReader, input: I, asked: Asked<R, N>)
 where
-    R: Wait + Copy,
+    R: Wait + Clock + Copy,
     I: Source + Drop,
     N: Named + Drop,
-    E: Drain + Drop,
 {
     let (mut lines, mut input, mut asked) = (lines, input, asked);
     for _ in rt.forever() {
@@ -117,11 +116,10 @@ fn wish_in(line: &[u8]) -> Wish
 
 /// Has the gate file read again, and puts its gate in force. One that is refused is reported, and the gate before it
 /// stays in force.
-fn reload<R, N, E>(rt: R, alloc: Global, asked: &mut Asked<R, N, E>)
+fn reload<R, N>(rt: R, alloc: Global, asked: &mut Asked<R, N>)
 where
-    R: Wait + Copy,
+    R: Wait + Clock + Copy,
     N: Named,
-    E: Drain,
 {
     let gate = read_by(
         alloc,

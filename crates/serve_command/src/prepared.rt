@@ -52,9 +52,9 @@ pub struct Opened<'a> {
 
 /// A site that listens, whose input is heard and whose output is made.
 #[derive(Drop)]
-pub struct Prepared<'a, R, E, O> {
+pub struct Prepared<'a, R, O> {
     pub opened: Opened<'a>,
-    pub heard: Heard<R, E>,
+    pub heard: Heard<R>,
     pub output: O,
 }
 
@@ -66,7 +66,7 @@ pub fn prepare<'a, R, I, N, E>(
     alloc: Global,
     site: Site<'a>,
     outside: Outside<I, N, E>,
-) -> Result<Prepared<'a, R, E, Ends<PatientOutput<R>>>, Ended<'static>>
+) -> Result<Prepared<'a, R, Ends<PatientOutput<R>>>, Ended<'static>>
 where
     R: Net<Listener = TcpListener, Stream = TcpStream> + RandomSource,
     R: Files<File = File> + Print + Threads + Wait + Clock,
@@ -127,7 +127,7 @@ fn attended<'a, R, I, N, E>(
     alloc: Global,
     opened: Opened<'a>,
     outside: Outside<I, N, E>,
-) -> Result<Prepared<'a, R, E, Ends<PatientOutput<R>>>, Ended<'static>>
+) -> Result<Prepared<'a, R, Ends<PatientOutput<R>>>, Ended<'static>>
 where
     R: Files + Print + Threads + Wait + Clock + Copy + Send + 'static,
     I: Source + Send + Drop + 'static,
@@ -156,7 +156,7 @@ fn attend<R, I, N, E>(
     gate: &str,
     until_input_ends: bool,
     outside: Outside<I, N, E>,
-) -> Result<(Heard<R, E>, Ends<PatientOutput<R>>), ServeFault>
+) -> Result<(Heard<R>, Ends<PatientOutput<R>>), ServeFault>
 where
     R: Print + Threads + Wait + Clock + Copy + Send + 'static,
     I: Source + Send + Drop + 'static,
@@ -175,14 +175,13 @@ where
 }
 
 /// What is heard, with the output that ends when a stop is heard.
-fn with_output<R, E>(
+fn with_output<R>(
     rt: R,
     alloc: Global,
-    heard: Heard<R, E>,
-) -> Result<(Heard<R, E>, Ends<PatientOutput<R>>), ServeFault>
+    heard: Heard<R>,
+) -> Result<(Heard<R>, Ends<PatientOutput<R>>), ServeFault>
 where
     R: Print + Threads + Wait + Clock + Copy + Send + 'static,
-    E: Drain + Send + Drop + 'static,
 {
     match output_of(rt, alloc, &heard.stop) {
         Ok(output) => Ok((heard, output)),

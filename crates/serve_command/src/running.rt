@@ -138,11 +138,12 @@ where
     }
 }
 
-/// Runs a site that is prepared, and saves what it has left. The sockets that were made for it are removed.
-fn run_prepared<R, E, O, L, S, K>(
+/// Runs a site that is prepared, and saves what it has left. The sockets that were made for it are removed, and what is
+/// to be said on its error output is said before it ends.
+fn run_prepared<R, O, L, S, K>(
     rt: R,
     alloc: Global,
-    prepared: Prepared<'_, R, E, O>,
+    prepared: Prepared<'_, R, O>,
     keys: &L,
     snapshot_file: &mut S,
     keeper: K,
@@ -151,7 +152,6 @@ where
     R: Net<Listener = TcpListener, Stream = TcpStream>,
     R: Files<File = File> + Threads + Wait + Clock,
     R: Copy + Send + Sync + 'static,
-    E: Drain + Send + Drop + 'static,
     O: Drain + Send + Drop,
     L: KeyReader + Sync,
     S: Saves,
@@ -181,12 +181,16 @@ where
     } = listening;
     let SiteListeners { listeners, page } = site_listeners;
     let host = Host { reader: keys };
+    let last = errors.share();
     let setup = setup_of(site, start, reloads, page);
     let closed = serve_keeping(
         &rt, alloc, listeners, setup, &stop, output, errors, &host, keeper,
     );
     let finished = finish(snapshot_file, closed);
     leave(&rt, sockets.as_slice());
+    if let Ok(last) = last {
+        last.finish();
+    }
     finished
 }
 

@@ -65,25 +65,25 @@ impl<R: Files> Saves for SnapshotFile<R> {
     }
 }
 
-/// Makes a new file beside a file that is no folder, and removes it. What is there already, which a save replaces, stays
-/// there: another site may be about to save.
+/// Makes a new file beside a file that is no folder, and removes it. What is there already, which a save replaces unless
+/// it is a folder, stays there: another site may be about to save.
 fn try_beside<R: Files>(rt: &R, alloc: Global, name: &str) -> io::Result<()> {
-    if is_folder(rt, name) {
-        return Err(io::Error::from(ErrorKind::IsADirectory));
-    }
+    refuse_folder(rt, name)?;
     let beside = format!(in alloc; "{name}.new")?;
     match new_file(rt, beside.as_str()) {
         Ok(_new) => fs::remove_file(rt, beside.as_str()),
-        Err(error) if error.kind() == ErrorKind::AlreadyExists => Ok(()),
+        Err(error) if error.kind() == ErrorKind::AlreadyExists => {
+            refuse_folder(rt, beside.as_str())
+        }
         Err(error) => Err(error),
     }
 }
 
-/// Whether a folder is there.
-fn is_folder<R: Files>(rt: &R, name: &str) -> bool {
+/// Fails where a folder is there, in whose place no file can be put.
+fn refuse_folder<R: Files>(rt: &R, name: &str) -> io::Result<()> {
     match fs::metadata(rt, name) {
-        Ok(found) => found.is_dir(),
-        Err(_) => false,
+        Ok(found) if found.is_dir() => Err(io::Error::from(ErrorKind::IsADirectory)),
+        _ => Ok(()),
     }
 }
 
