@@ -2,33 +2,13 @@
 
 use super::asserts::assert_found;
 use byte_ends::{Drain, Ends, Source};
-use command_line::{Asked, read_words};
-use commands::{print_text, report, report_usage, run_command};
-use console::{Named, Refusal};
+use commands::run_words;
+use console::Named;
 use std::alloc::Global;
 use std::process::Abort;
 
 /// What a test lacks where memory is refused that it counts on.
 pub const MEMORY: &str = "memory";
-
-/// What the program does for words that ask for a command over files, or for none: it ends with this status.
-pub fn run_words<I: Source, O: Drain, E: Drain, N: Named>(
-    alloc: Global,
-    words: &[&str],
-    input: &mut I,
-    output: &mut O,
-    errors: &mut E,
-    files: &mut N,
-) -> u8 {
-    match read_words(alloc, words) {
-        Asked::Run(command) => run_command(alloc, &command, input, output, errors, files),
-        Asked::Help(text) | Asked::Version(text) => {
-            print_text(alloc, text.as_str(), output, errors)
-        }
-        Asked::Usage(text) => report_usage(text.as_str(), errors),
-        _ => report(alloc, &Err(Refusal::Memory), errors),
-    }
-}
 
 /// What the program printed on its output and on its error output, and its status.
 pub type Printed = (Vec<u8>, Vec<u8>, u8);

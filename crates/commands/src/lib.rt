@@ -6,8 +6,8 @@
 //! It is a crate of its own so that all commands keep one law, in which each is one row. Not taken: a contract for each
 //! command by itself, which would have to say anew which input is refused first.
 //!
-//! `run_command` runs a command over any ends and files; `print_text`, `report_usage` and `report` do what is asked for
-//! in place of one.
+//! `run_words` does what the words of a command line ask for over any ends and files, and `run_asked` what was read of
+//! them: `run_command` runs a command; `print_text`, `report_usage` and `report` do what is asked for in place of one.
 //!
 //! An example of its use:
 //!
@@ -31,5 +31,7 @@ mod record;
 mod run;
 mod simulate;
 mod why;
+mod words;
 
 pub use run::{print_text, report, report_usage, run_command};
+pub use words::{run_asked, run_words};

@@ -7,8 +7,8 @@ mod keys;
 mod projects;
 
 use byte_ends::{Drain, Ends, Source};
-use command_line::{Asked, Command, EnqueueWords, RecoverWords, ServeWords, read_words};
-use commands::{print_text, report, report_usage, run_command};
+use command_line::{Asked, EnqueueWords, RecoverWords, ServeWords, read_words};
+use commands::{report, report_usage, run_asked};
 use console::{Named, Refusal, show_line};
 use enqueue::enqueue;
 use events::feed;
@@ -47,7 +47,6 @@ fn main(rt: HostRuntime) -> ExitCode {
         }
     };
     let status = match read_words(alloc, words.as_slice()) {
-        Asked::Run(command) => run(rt, alloc, &command, &mut Ends::new(rt.stderr())),
         Asked::Serve(words) => {
             let log_time = words.log_time;
             serve_reported(
@@ -71,35 +70,26 @@ fn main(rt: HostRuntime) -> ExitCode {
             &mut Ends::new(rt.stderr()),
         ),
         Asked::Enqueue(words) => hand_over(rt, alloc, words, &mut Ends::new(rt.stderr())),
-        Asked::Help(text) | Asked::Version(text) => {
-            print(&rt, alloc, text.as_str(), &mut Ends::new(rt.stderr()))
-        }
-        Asked::Usage(text) => report_usage(text.as_str(), &mut Ends::new(rt.stderr())),
-        Asked::NoMemory => report(alloc, &Err(Refusal::Memory), &mut Ends::new(rt.stderr())),
+        asked => run(rt, alloc, asked, &mut Ends::new(rt.stderr())),
     };
     ExitCode::from(status)
 }
 
-/// Runs a command over files. Answers the status.
-fn run<R, E>(rt: R, alloc: Global, command: &Command<'_>, errors: &mut E) -> u8
+/// Does what the words ask for, where that isn't a command with a function of its own here. Answers the status.
+fn run<R, E>(rt: R, alloc: Global, asked: Asked<'_>, errors: &mut E) -> u8
 where
     R: Input + Print + Files + Net<Stream = TcpStream> + Clock + Threads,
     R: AllocGlobal + Copy + Drop,
     E: Drain,
 {
-    run_command(
+    run_asked(
         alloc,
-        command,
+        asked,
         &mut Ends::new(rt.reader()),
         &mut Ends::new(io::writer(&rt)),
         errors,
         &mut SystemFiles::read_by(rt, SideBySide::new(rt)),
     )
-}
-
-/// Prints a text. Answers the status.
-fn print<R: Print, E: Drain>(rt: &R, alloc: Global, text: &str, errors: &mut E) -> u8 {
-    print_text(alloc, text, &mut Ends::new(io::writer(rt)), errors)
 }
 
 /// Hands items to Zuul as the words ask for. Answers the status.

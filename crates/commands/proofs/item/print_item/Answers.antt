@@ -1,4 +1,4 @@
-use Rattle.std.proofs.Common.{◌∙◌, inl, [], subst, sym}
+use Rattle.std.proofs.Common.{inl, [], subst, sym}
 use Rattle.std.proofs.lemmas.Result.{err_from_is_err_and}
 use Rattle.commands.specs.Answers.{IsItemPrinted, IsStanding}
 use Rattle.commands.proofs.Checking.{ends_cut, ends_printed}

@@ -1,4 +1,4 @@
-use Rattle.std.proofs.Common.{◌≡◌, ◌∙◌, List, ℕ, refl, subst, sym, true}
+use Rattle.std.proofs.Common.{◌≡◌, ◌∙◌, List, ℕ, refl, subst, true}
 use Rattle.console.specs.Printing.{Prints}
 use Rattle.commands.specs.Answers.{IsPrintedWhole, MissesNone, report_as}
 use Rattle.commands.proofs.HowItEnds.{finishes, stops}
