@@ -96,11 +96,12 @@ abbrev pub out_as : Bool → Left → List ℕ
 out_as true left = json_line (out_item_tokens left)
 out_as false left = out_line left
 
+-- the item is left out, and the answer is its line
 abbrev pub IsLeftSo : Bool → List Left → Item → Bool → List ℕ → Type 0
 IsLeftSo is_json out item is_ready answer =
     (is_ready ≡ false) × (left : Left) × Contains out left × (left.item ≡ item) × (answer ≡ out_as is_json left)
 
--- so the item stands by these verdicts, and its line says so
+-- the verdict on the item, and its line
 abbrev pub StandsSo : Bool → Judged → Item → Bool → List ℕ → Type 0
 StandsSo is_json verdicts item is_ready answer =
     ((is_ready ≡ true) × Contains verdicts.ready item × (answer ≡ ready_as is_json item))
@@ -177,6 +178,7 @@ IsPicture around rules state answer = HasAround around state × IsGraphText rule
 
 -- ---- `merge`: the snapshot of the operations of either, each once, as a grow-only set merges
 
+-- the answer is the snapshot of the operations that either snapshot says
 pub record IsMergedText (first second answer : List ℕ) : Type 0 where
   pub ops : List Operation
   pub others : List Operation
@@ -213,6 +215,7 @@ abbrev pub footers_as : Bool → List (List ℕ) → List ℕ → List (List ℕ
 footers_as true bases needs ignored = json_line (footers_tokens bases needs ignored)
 footers_as false bases needs ignored = footers_text needs ignored
 
+-- the answer has the changes that the message depends on under the gate's bases, and the footers that name none
 pub record AreFooterLines (gate message : List ℕ) (change : ℕ) (is_json : Bool) (answer : List ℕ) : Type 0 where
   pub rules : GateRules
   pub spelled : SpellsGate gate rules

@@ -25,7 +25,7 @@ use std::alloc::Global;
 use std::mem::ManuallyDrop;
 use why_text::item_asked;
 
-/// How an item stands, and the line that says so.
+/// The verdict on an item, and its line.
 #[derive(Drop)]
 struct Standing {
     line: Vec<u8>,
@@ -89,7 +89,7 @@ fn end_of(is_ready: bool) -> Result<(), Refusal<'static>>
     }
 }
 
-/// How the item stands that is asked for.
+/// The verdict on the item that is asked for.
 fn standing_of(
     alloc: Global,
     rules: &Gate,
@@ -116,7 +116,7 @@ fn standing_of(
     }
 }
 
-/// How an item stands by verdicts, in which it is ready or left out.
+/// The verdict on an item among verdicts in which it is ready or left out.
 fn standing_in(
     alloc: Global,
     verdicts: &Verdicts,
@@ -133,7 +133,7 @@ fn standing_in(
     left_in(alloc, verdicts.out(), item, is_json)
 }
 
-/// How an item stands that is ready.
+/// The verdict on an item that is ready.
 fn ready_so(alloc: Global, item: Item, is_json: bool) -> Result<Standing, NoMemory>
     ensures { IfOk result
         (λ standing. (standing.is_ready ≡ true) × (standing.line.items ≡ ready_as is_json item)) }
@@ -176,7 +176,7 @@ fn bytes_of(alloc: Global, page: &Page) -> Result<Vec<u8>, NoMemory>
     Ok(bytes)
 }
 
-/// How an item stands that is left out.
+/// The verdict on an item that is left out.
 fn left_in(alloc: Global, out: &[Left], item: Item, is_json: bool) -> Result<Standing, NoMemory>
     requires sorted { IsStrictlySortedBy item_cmp (items_out out.now) }
     requires there { Contains (items_out out.now) item }

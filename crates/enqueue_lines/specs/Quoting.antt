@@ -7,7 +7,7 @@ use Rattle.std.specs.Char.{is_ascii_alphanumeric}
 
 -- ---- writing
 
--- a byte that a shell takes as it is, wherever it stands in a word: a letter, a digit, or one of these
+-- a byte that a shell takes as it is, wherever it is in a word: a letter, a digit, or one of these
 abbrev pub is_bare_byte : ℕ → Bool
 is_bare_byte byte = is_ascii_alphanumeric byte || list_any (λ other. other == byte) (codes "_./:,@%+=-")
 

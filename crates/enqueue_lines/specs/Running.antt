@@ -116,7 +116,7 @@ abbrev pub IsSaidAs : List ℕ → Option Said → Type 0
 IsSaidAs line None = ⊥
 IsSaidAs line (Some said) = LineSays line said
 
--- what a line does to the lines of a group that are kept: its end is told, and of any other what it tells is kept
+-- what a line does to the kept lines of a group: an end line ends the group, and of any other what it says is kept
 abbrev pub KeepsSaid : Said → List Said → List Said → Step → Type 0
 KeepsSaid (End ready out) old new step = (step ≡ EndsWith ready) × (new ≡ old)
 KeepsSaid (Ready item) old new step = (step ≡ GoesOn) × (told_by new ≡ told_by (old ++ Ready item ∷ []))
@@ -136,7 +136,7 @@ abbrev pub with_end : List Said → Option ℕ → ℕ → List Said
 with_end lines None out = lines
 with_end lines (Some ready) out = lines ++ End ready out ∷ []
 
--- these lines came, of which those that tell something are kept; none did where none were counted
+-- these lines came, of which those that say something are kept; none did where none were counted
 pub record GroupComes (bytes rest : List ℕ) (kept : List Said) (count : ℕ) (ended : Option ℕ) : Type 0 where
   pub lines : List Said
   pub out : ℕ

@@ -8,7 +8,7 @@ use std::alloc::AllocError;
 /// Why a template isn't read.
 #[derive(Clone, Copy, Debug, PartialEq, Eq)]
 pub enum TemplateFault<'a> {
-    /// 7: this stands between braces, and is no field's name.
+    /// 7: this is between braces, and is no field's name.
     UnknownField(&'a str),
     /// 8: no brace closes one that is open.
     OpenBrace,
@@ -28,7 +28,7 @@ impl<'a> TemplateFault<'a> {
         }
     }
 
-    /// Adds the words of the fault: its name, and what stands between the braces.
+    /// Adds the words of the fault: its name, and what is between the braces.
     pub fn write_words(&self, words: &mut String) -> Result<(), AllocError>
         ensures { OnOk result (string_bytes words.new ≡ string_bytes words.old ++ template_words self.now) }
     {

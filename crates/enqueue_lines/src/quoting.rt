@@ -48,7 +48,7 @@ fn is_plain_byte(byte: u8) -> bool
     byte.is_ascii_alphanumeric() || PLAIN_BYTES.contains(&byte)
 }
 
-/// Adds what stands between the quotes of a word.
+/// Adds what is between the quotes of a word.
 fn add_within(text: &mut Vec<u8>, word: &[u8]) -> Result<(), AllocError>
     ensures { OnOk result (text.new.items ≡ text.old.items ++ flat_map within_quotes word.now) }
 {

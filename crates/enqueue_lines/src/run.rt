@@ -231,7 +231,7 @@ fn keep(coming: &mut Coming, said: Said) -> Result<Step, EnqueueFault>
     }
 }
 
-/// Keeps what a line tells.
+/// Keeps what a line says.
 fn push_said(lines: &mut Vec<Said>, said: Said) -> Result<Step, EnqueueFault>
     ensures kept { IfOk result (λ step. (step ≡ Step.GoesOn) × (lines.new.items ≡ lines.old.items ++ said ∷ [])) }
     ensures fault { IfErr result (λ fault. fault ≡ EnqueueFault.NoMemory) }

@@ -1,4 +1,4 @@
--- A feed: the lines of a source are read one after the other, and what each tells is handed to a taker before the next
+-- A feed: the lines of a source are read one after the other, and what each says is handed to a taker before the next
 -- one is read.
 use Rattle.std.specs.Prelude.{◌≡◌, ◌⊎◌, ◌<◌, ◌≤◌, ◌+◌, ℕ, List, [], ◌∷◌, ◌++◌, Option, Some, None}
 use Rattle.std.specs.Prelude.{Result, Ok, Err, length, if◌then◌else◌}
@@ -28,18 +28,18 @@ use Rattle.event_feed.specs.declared.progress.Progress.TheVariants.{Unbegun}
 abbrev pub gerrit_line_limit : ℕ
 gerrit_line_limit = 67108864
 
--- ---- what a line tells
+-- ---- what a line says
 
--- a line as it came, without its LF, and what it tells
+-- a line as it came, without its LF, and what it says
 pub record FeedTurn : Type 0 where
   pub piece : List ℕ
   pub told : Told
 
--- what a line tells that is no event
+-- what a line says that is no event
 abbrev pub no_event : Told
 no_event = record { part = Nothing; findings = Refuses (BadEvent Line) ∷ [] }
 
--- a line of at most so many bytes tells what is read of it, where the changes of these projects are fed; a longer one
+-- a line of at most so many bytes says what is read of it, where the changes of these projects are fed; a longer one
 -- is no event, and isn't read
 abbrev pub IsFoundTurn : Choice → ℕ → List Revision → FeedTurn → List Revision → Type 0
 IsFoundTurn choice limit known turn after =
@@ -108,7 +108,7 @@ module _ {Taker : Type 0} (rests : Taker → Result (Unit {0}) FeedFault → Tak
     pub same : (new.source ≡ old.source) × IsUnlearned old new
 
 module _ {Taker : Type 0} (takes : Taker → ℕ → Told → Result (Unit {0}) FeedFault → Taker → Type 0) where
-  -- the line of this number is read, and what it tells is handed over
+  -- the line of this number is read, and what it says is handed over
   pub record IsTurn (choice : Choice) (limit number : ℕ) (old new : Standing Taker) (turn : FeedTurn)
       (result : Result (Unit {0}) FeedFault) : Type 0 where
     pub read : IsTextRead (as_line turn.piece) old.source new.source
@@ -138,7 +138,7 @@ module _ {Taker : Type 0} (takes : Taker → ℕ → Told → Result (Unit {0}) 
     pub same : IsUnlearned old new
     pub ended : EndsWith number (old.source.held ++ came) old.taker new.taker (end_of input old.progress) result
 
-  -- how a feed ends early at the line of this number: with what it tells, as the taker can't take it up, with the
+  -- how a feed ends early at the line of this number: with what it says, as the taker can't take it up, with the
   -- source, or as reading breaks off
   abbrev pub Fails : Input → Choice → ℕ → ℕ → Standing Taker → Standing Taker → FeedFault → Type 0
   Fails input choice limit number old new fault =

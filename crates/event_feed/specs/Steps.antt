@@ -48,7 +48,7 @@ module _ {Taker : Type 0} (rests : Taker → Result (Unit {0}) FeedFault → Tak
   Rests held old new (Err fault) = HasNoLf held × rests old (Err fault) new
 
 module _ {Taker : Type 0} (takes : Taker → ℕ → Told → Result (Unit {0}) FeedFault → Taker → Type 0) where
-  -- what a line tells is handed over, and may end the feed
+  -- what a line says is handed over, and may end the feed
   abbrev pub IsHanded : ℕ → Told → Progress → Progress → Taker → Taker → Result Bool FeedFault → Type 0
   IsHanded number told before after old new (Ok true) =
       takes old number told (Ok tt) new × (ended_by told ≡ None) × (after ≡ after_part before told.part)
@@ -57,7 +57,7 @@ module _ {Taker : Type 0} (takes : Taker → ℕ → Told → Result (Unit {0}) 
       (takes old number told (Err fault) new ⊎ (takes old number told (Ok tt) new × (ended_by told ≡ Some fault)))
       × (after ≡ after_part before told.part)
 
-  -- a line is read, and what it tells is handed over; or memory is refused for reading it
+  -- a line is read, and what it says is handed over; or memory is refused for reading it
   abbrev pub IsLineTaken : Choice → ℕ → List ℕ → List Revision → List Revision → Progress → Progress → Taker → Taker
       → Result Bool FeedFault → Type 0
   IsLineTaken choice number line known learned before after old new result =

@@ -1,4 +1,4 @@
-//! Reads a source line by line, and hands over what each line tells.
+//! Reads a source line by line, and hands over what each line says.
 
 ghost use Rattle.std.specs.Prelude.{◌≡◌};
 ghost use Rattle.event_feed.specs.Feed.{Feeds, gerrit_line_limit};
@@ -18,7 +18,7 @@ use std::alloc::Global;
 /// How many bytes a line may have: 64 MiB.
 const LINE_LIMIT: usize = 67_108_864;
 
-/// Reads the lines of a source, one after the other, and hands to a taker what each tells, with its number, counted
+/// Reads the lines of a source, one after the other, and hands to a taker what each says, with its number, counted
 /// from 1, before the next one is read. Before more of the source is read the taker rests. A line of more than
 /// 67,108,864 bytes is passed over without being held, and is no event, as is what comes last without an LF. Ends well
 /// at the end of the source. Refusals: 2 `Dropped`, a line says that Gerrit dropped events; 3 `ReadFault`, the source

@@ -1,4 +1,4 @@
-//! Hands over what a line tells.
+//! Hands over what a line says.
 
 ghost use Rattle.std.specs.Prelude.{◌≡◌, IfOk};
 ghost use Rattle.event_feed.specs.Feed.{HandsLast, ended_by, no_event};
@@ -19,7 +19,7 @@ pub struct Learned {
     pub progress: Progress,
 }
 
-/// Reads a line, and hands over what it tells. Says that there was a line.
+/// Reads a line, and hands over what it says. Answers that there was a line.
 pub fn take_line<T: Taker>(
     alloc: Global,
     projects: &Projects,
@@ -37,7 +37,7 @@ pub fn take_line<T: Taker>(
     }
 }
 
-/// Hands over what a line tells, and says that there was a line, unless the feed ends with it.
+/// Hands over what a line says, and answers that there was a line, unless the feed ends with it.
 fn hand_over<T: Taker>(
     number: u64,
     told: Told,
@@ -119,7 +119,7 @@ pub fn refuse_last<T: Taker>(
     }
 }
 
-/// Hands over the last thing that a source tells.
+/// Hands over the last thing that a source says.
 fn hand_last<T: Taker>(
     number: u64,
     told: Told,

@@ -1,5 +1,5 @@
 //! Feeds what Gerrit writes, line by line: its stream of events, or what it answers to a query. Each line is read and
-//! what it tells is handed to a taker before the next one is read; `events_run` is such a feed to a session of a site.
+//! what it says is handed to a taker before the next one is read; `events_run` is such a feed to a session of a site.
 //! Its output is what a client of the session says, `hello 2` and then a line `take BODY` for each body. What is lost
 //! of a line is reported on the errors.
 //!

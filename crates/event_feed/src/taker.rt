@@ -20,7 +20,7 @@ pub trait Taker {
     fn rest(&mut self) -> Result<(), FeedFault>
         ensures { rests self.old result self.new };
 
-    /// Takes up what the line of this number tells.
+    /// Takes what the line of this number says.
     fn take(&mut self, number: u64, told: Told) -> Result<(), FeedFault>
         ensures { takes self.old number told result self.new };
 }

@@ -28,6 +28,7 @@ AddsTo change set None message parent = (later : ℕ) → IsKnownSet change late
 AddsTo change set (Some held) message None = ⊥
 AddsTo change set (Some held) message (Some parent) = (held.message ≡ message) × (held.parent ≢ Some parent)
 
+-- the record lacks the patch set that is shown, or the parent that is shown of it
 abbrev pub IsNews : State → Deed → Type 0
 IsNews state (patch_set change set message parent) =
     AddsTo (change_at state change) set (patch_at (change_at state change) set) message parent
@@ -75,6 +76,7 @@ Where is bodies deed = (is × (bodies ≡ deed ∷ [])) ⊎ ((¬ is) × (bodies 
 abbrev pub Unless : Type 0 → List Deed → Deed → Type 0
 Unless is bodies deed = (is × (bodies ≡ [])) ⊎ ((¬ is) × (bodies ≡ deed ∷ []))
 
+-- the bodies that are brought of a finding: what the record doesn't say yet
 abbrev pub IsBrought : State → Finding → List Deed → Type 0
 IsBrought state (Brings deed) bodies = Unless (IsSaidByRecord state deed) bodies deed
 IsBrought state (Shows deed) bodies = Where (IsNews state deed) bodies deed

@@ -27,6 +27,7 @@ IsWrittenLast c stamp (abandon change) = IsAbove stamp c.life
 IsWrittenLast c stamp (restore change) = IsAbove stamp c.life
 IsWrittenLast c stamp (merged change) = Unit {0}
 
+-- no operation on the same thing was stamped later
 abbrev pub IsNewest : State → Operation → Type 0
 IsNewest state op = IsWrittenLast (change_at state (change_of op.deed)) op.stamp op.deed
 
@@ -39,5 +40,6 @@ CountsFor c (abandon change) = status_of c ≢ Merged
 CountsFor c (restore change) = status_of c ≢ Merged
 CountsFor c (merged change) = Unit {0}
 
+-- the deed counts, as the change is now
 abbrev pub IsOpenTo : State → Deed → Type 0
 IsOpenTo state deed = CountsFor (change_at state (change_of deed)) deed

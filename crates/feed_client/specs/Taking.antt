@@ -1,4 +1,5 @@
--- How a feed of a site takes up what a line tells: what has to be asked is said first, and then what was found is met.
+-- What a feed of a site does with a line: it writes first which changes have to be queried, and then offers what it
+-- found.
 use Rattle.std.specs.Prelude.{◌≡◌, ◌⊎◌, ◌↔◌, ℕ, true, List, ◌++◌, Option, Result, Ok, Err, codes, decimal}
 use Rattle.std.specs.Prelude.{flat_map}
 use Rattle.std.specs.BTreeSet.{BTreeSet, contains}
@@ -60,7 +61,7 @@ module _ {Site : Type 0} (replies : Site → Deed → Result Timestamp IntakeFau
       × InTurn (Meets replies number) told.findings old.place new.place result)
       ⊎ (FeedIsCutShort (ask_lines asks.keys) old.output new.output × (result ≡ Err WriteFault) × (new.place ≡ old.place))
 
-  -- what the line of this number tells is taken up; nothing is done where memory is refused for what to ask
+  -- what the line of this number says is taken up; nothing is done where memory is refused for what to ask
   abbrev pub TakesLine : ℕ → Told → Seen Site → Seen Site → Result (Unit {0}) FeedFault → Type 0
   TakesLine number told old new result =
       (((asks : BTreeSet ℕ) × AreAsked old.bases old.place.state told asks × AsksAndMeets number asks told old new result)

@@ -31,7 +31,7 @@ const SILENT_TICKS: u32 = 10;
 /// How many seconds after a pull it pulls again, however much comes from the input.
 const PULL_S: u64 = 1;
 
-/// How many seconds pass at least before the site is told again that Gerrit was heard.
+/// How many seconds pass at least before the site hears again that Gerrit was heard.
 const HEARD_S: u64 = 10;
 
 /// A session that is open, with what it was asked for so far.

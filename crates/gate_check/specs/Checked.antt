@@ -50,7 +50,7 @@ check_line gate evidence = json_line (check_tokens gate evidence)
 
 -- ---- a check
 
--- the text is so of the gate and what the record of a state shows, where one is given, and has so many warnings
+-- the text is that of a check of the gate, with the record of a state where one is given, and has so many warnings
 abbrev pub IsCheck : (GateRules → Option Evidence → List ℕ) → GateRules → Option State → List ℕ → ℕ → Type 0
 IsCheck shows gate state text count =
     (evidence : Option Evidence) × IsEvidenceIfAny gate state evidence

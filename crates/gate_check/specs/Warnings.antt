@@ -66,7 +66,7 @@ abbrev pub not_among : Warning → List ℕ → List (List ℕ) → List ℕ →
 not_among warning place names name =
     record { warning = warning; place = place; about = Some name; nearest = nearest name names }
 
--- it, where it is so
+-- this warning, or none
 abbrev pub warned : Bool → Found → List Found
 warned is_so found = if is_so then found ∷ [] else []
 

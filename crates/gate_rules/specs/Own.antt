@@ -93,6 +93,7 @@ abbrev pub breaking : Side → Bool
 breaking Require = false
 breaking Reject = true
 
+-- the gate has the condition, and it doesn't hold where it is required, or holds where it is rejected
 abbrev pub IsBroken : GateRules → ItemStanding → Condition → Type 0
 IsBroken gate standing condition =
     compared (side_rules gate condition.side) standing condition.clause ≡ Some (breaking condition.side)
@@ -137,7 +138,8 @@ pub record IsFirstBroken (gate : GateRules) (standing : ItemStanding) (condition
   pub here : IsBroken gate standing condition
   pub first : (other : Condition) → before other condition ≡ true → ¬ IsBroken gate standing other
 
--- an item's own condition, over the state of its change: the first that it breaks, or none where it breaks none
+-- an item's own condition, over the state of its change: the first that it breaks, or none where it breaks none; of an
+-- item that isn't one of the state this says nothing
 abbrev pub IsOwn : GateRules → State → Item → Option Condition → Type 0
 IsOwn gate state item own =
     (change : Change) (current : ℕ) → finite.get state item.change ≡ Some change → IsGreatestKnown change current

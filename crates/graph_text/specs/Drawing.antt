@@ -64,6 +64,7 @@ pub record AreUnknown (gate : GateRules) (state : State) (around : Option ℕ) (
   pub each : (number : ℕ)
       → Contains unknown number ↔ (IsAhead gate state around item × IsUnknownTarget gate state item number)
 
+-- what is drawn of an item: the verdict on it, its cycle, what it waits for, and which unknown changes it names
 pub record IsNode (gate : GateRules) (state : State) (verdicts : Judged) (around : Option ℕ) (node : Node)
     : Type 0 where
   pub verdict : IsVerdictOn verdicts node.item node.refusal
@@ -89,6 +90,7 @@ pub record AreAllUnknown (nodes : List Node) (unknown : List ℕ) : Type 0 where
   pub each : (number : ℕ)
       → Contains unknown number ↔ Contains (flat_map (λ node. node.unknown.items) nodes) number
 
+-- the text is the graph of the items and of what they wait for, with the verdicts on the state
 pub record IsGraphText (gate : GateRules) (state : State) (around : Option ℕ) (text : List ℕ) : Type 0 where
   pub verdicts : Judged
   pub judged : AreVerdicts gate state verdicts

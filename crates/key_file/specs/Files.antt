@@ -22,6 +22,7 @@ role_text Feed = codes "feed"
 abbrev pub entry_text : KeyEntry → List ℕ
 entry_text entry = entry.name ++ 32 ∷ role_text entry.role ++ 32 ∷ encode_lower entry.secret
 
+-- a key has a name, and a secret of 32 bytes
 pub record IsKeyEntry (entry : KeyEntry) : Type 0 where
   pub name : IsName entry.name
   pub long : length entry.secret ≡ 32
@@ -32,6 +33,7 @@ pub record SaysKey (line : List ℕ) (entry : KeyEntry) : Type 0 where
   pub good : IsKeyEntry entry
   pub text : line ≡ entry_text entry
 
+-- the line is empty, or begins with `#`
 abbrev pub IsPassedOver : List ℕ → Type 0
 IsPassedOver line = (line ≡ []) ⊎ (slice_index line 0 ≡ 35)
 
@@ -51,7 +53,7 @@ pub record IsBad (line : List ℕ) : Type 0 where
 abbrev pub SaysMore : List ℕ → List KeyEntry → List KeyEntry → Type 0
 SaysMore line old new = (more : List KeyEntry) × Say (line ∷ []) more × (new ≡ old ++ more)
 
--- a line is bad, and those before it, of which there are so many, aren't
+-- a line is bad, and the lines before it, so many, aren't
 pub record IsFirstBadLine (lines : List (List ℕ)) (before : ℕ) : Type 0 where
   pub keys : List KeyEntry
   pub good : Say (take before lines) keys

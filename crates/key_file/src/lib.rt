@@ -2,7 +2,7 @@
 //!
 //! Its tests are in the crate `seal_tests`.
 //!
-//! It is here since a key has to be named on both sides without being told, and to be withdrawn by editing one line.
+//! It is here since both sides have to name a key without disclosing it, and one line is edited to withdraw it.
 //! Not taken: TOML, whose values would be printed with an error.
 //!
 //! An example of its use:

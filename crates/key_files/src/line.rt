@@ -11,7 +11,7 @@ use refusal_line::{Part, refusal_line};
 use std::alloc::{AllocError, Global};
 
 /// The line `reviewgate: keys NUMBER NAME ABOUT` of a fault of keys, with the name of the file or of who has no key
-/// there; a bad line's number stands before that.
+/// there; a bad line's number comes before that.
 pub fn keys_line(alloc: Global, fault: KeyFault, about: &str) -> Result<String, AllocError>
     ensures { IfOk result (λ line. string_bytes line ≡ line_of Keys (number_of fault) (words_of fault about.now)) }
 {

@@ -8,7 +8,7 @@ ghost use Rattle.keyed_digest.specs.Hmac.{hmac, pad};
 use sha2::{Digest, Sha256};
 use std::marker::Model;
 
-/// A tag: 32 bytes. Compare tags by `Mac::is_tag` or `is_same`, whose time doesn't tell where they differ.
+/// A tag: 32 bytes. Compare tags by `Mac::is_tag` or `is_same`, which look at each byte, wherever they differ.
 pub type Tag = [u8; 32];
 
 /// How many bytes a block of SHA-256 has.

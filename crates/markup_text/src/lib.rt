@@ -1,4 +1,4 @@
-//! HTML as it is written: markup that stands in the program, and texts from outside, which are escaped.
+//! HTML as it is written: markup that is part of the program, and texts from outside, which are escaped.
 //!
 //! Its tests are in the crate `page_tests`.
 //!

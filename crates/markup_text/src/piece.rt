@@ -3,7 +3,7 @@
 /// A piece of HTML.
 #[derive(Clone, Copy, Debug)]
 pub enum Piece<'a> {
-    /// Markup as it is. It stands in the program, so that no text from outside passes for markup.
+    /// Markup as it is. It is part of the program, so that no text from outside passes for markup.
     Markup(&'static str),
     /// A text, which a reader sees as it is, but for hidden characters, which are shown by their codes. It is good in
     /// an element and in the value of an attribute in quotes.

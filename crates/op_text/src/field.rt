@@ -136,7 +136,7 @@ impl Field {
         }
     }
 
-    /// What stands before the value of a field that isn't the first.
+    /// What comes before the value of a field that isn't the first.
     pub fn literal(self) -> &'static [u8]
         ensures { result.now ≡ 44 ∷ (quoted (key_of self) ++ 58 ∷ []) }
     {

@@ -1,5 +1,5 @@
 //! Reads the parts of a text that is as it is written: literals, numbers and quoted texts. Each answers what it read
-//! and what follows it, and nothing where another part stands there.
+//! and what follows it, and nothing where another part is there.
 
 ghost use Rattle.std.specs.Prelude.{◌≡◌, ◌+◌, ◌∷◌, ◌++◌, [], ◌≤◌, length, take, decimal, IfSome, IsTrue, string_bytes};
 ghost use Rattle.std.specs.Fmt.{signed_decimal};

@@ -197,7 +197,7 @@ fn put_decimal(page: &mut Vec<u8>, number: u64) -> Result<(), AllocError>
     put(page, buffer.format(number).as_bytes())
 }
 
-/// Writes a text as it stands in quotes.
+/// Writes a text as it is in quotes.
 fn put_escaped(page: &mut Vec<u8>, text: &[u8]) -> Result<(), AllocError>
     ensures ok { OnOk result (page.new.items ≡ page.old.items ++ escape text.now) }
     ensures kept { Extends page.old.items page.new.items }
@@ -214,7 +214,7 @@ fn put_escaped(page: &mut Vec<u8>, text: &[u8]) -> Result<(), AllocError>
     }
 }
 
-/// Writes a byte as it stands in quotes.
+/// Writes a byte as it is in quotes.
 fn put_escape(page: &mut Vec<u8>, byte: u8) -> Result<(), AllocError>
     ensures ok { OnOk result (page.new.items ≡ page.old.items ++ escape_byte byte) }
     ensures kept { Extends page.old.items page.new.items }

@@ -48,7 +48,7 @@ pub data ShowsPage (headers : Entries FieldValue) (page : Page) (date : Option F
       → IsResponse 304 (kept_fields page.body.items date) [] response
       → ShowsPage headers page date response
 
--- a refused method is told which methods there are
+-- the answer to a refused method lists the allowed ones (RFC 9110, section 10.2.1)
 abbrev pub allow_fields : Refusal → List Header
 allow_fields OtherMethod = (codes "allow", codes "GET, HEAD") ∷ []
 allow_fields other = []

@@ -10,8 +10,8 @@ use Rattle.sha2.specs.Sha256.{sha256}
 abbrev pub tag_text : List ℕ → List ℕ
 tag_text text = codes "\"" ++ encode_lower (sha256 text) ++ codes "\""
 
--- a value of the field names the tag, compared weakly: it is `*`, or the tag with its quotation marks stands in the
--- list. No tag has a quotation mark inside, so that what stands in a list in quotation marks is one of its tags.
+-- a value of the field names the tag, compared weakly: it is `*`, or the tag with its quotation marks is in the
+-- list. No tag has a quotation mark inside, so that what is in a list in quotation marks is one of its tags.
 abbrev pub IsNamedIn : List ℕ → List ℕ → Type 0
 IsNamedIn tag value = (value ≡ codes "*") ⊎ ((place : ℕ) × OccursAt value tag place)
 

@@ -81,7 +81,7 @@ abbrev pub peer_age_text : List ℕ → List ℕ → Option ℕ → List ℕ
 peer_age_text name peer None = []
 peer_age_text name peer (Some age) = peer_milli_sample name peer age
 
--- what is told of a peer
+-- the figures of a peer
 abbrev pub figure_text : List ℕ → Figure → PeerFacts → List ℕ
 figure_text name Reached peer = peer_sample name (string_bytes peer.peer) (flag peer.is_reachable)
 figure_text name Age peer = peer_age_text name (string_bytes peer.peer) peer.good_ms

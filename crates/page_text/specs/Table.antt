@@ -31,7 +31,7 @@ place_html (Waits left) = joined (codes "<tr><td></td>" ∷ [])
 abbrev pub front_html : State → Row → List ℕ
 front_html state row = place_html row ++ about_html state (row_item row)
 
--- a row was added, with what stands behind its beginning
+-- a row was added, with what comes after its beginning
 pub record AddsRow (state : State) (row : Row) (old new : List ℕ) : Type 0 where
   pub more : List ℕ
   pub is : new ≡ old ++ (front_html state row ++ more)

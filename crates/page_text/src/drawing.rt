@@ -26,7 +26,7 @@ const WIDTH: u64 = 150;
 
 const HEIGHT: u64 = 28;
 
-/// What stands in place of a drawing with too many nodes.
+/// What is shown in place of a drawing with too many nodes.
 const TOO_MANY: &str = "<p>More than 60 changes would be drawn: the lists have them.</p>\n";
 
 /// How a picture begins.

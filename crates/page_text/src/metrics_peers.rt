@@ -9,7 +9,7 @@ use super::facts::PeerFacts;
 use super::lines::Lines;
 use super::samples::{add_family, add_peer, add_peer_milliseconds};
 
-/// What is told of each peer.
+/// The figures of each peer.
 #[derive(Clone, Copy)]
 pub enum Figure {
     /// 1 where the last pull reached it, else 0.

@@ -33,12 +33,15 @@ pub record IsUnknownTarget (gate : GateRules) (state : State) (item : Item) (num
   pub target : IsTarget gate state item number
   pub unknown : ¬ IsKnown state number
 
+-- the item is one of the state, breaks no condition of its own, is on no cycle that the gate doesn't allow, and each of
+-- its targets is known
 pub record IsEligible (gate : GateRules) (state : State) (item : Item) : Type 0 where
   pub there : IsItem state item
   pub own : IsFree gate state item
   pub off : IsOffCycles gate state item
   pub known : (number : ℕ) → ¬ IsUnknownTarget gate state item number
 
+-- it isn't
 abbrev pub IsIneligible : GateRules → State → Item → Type 0
 IsIneligible gate state item = ¬ IsEligible gate state item
 

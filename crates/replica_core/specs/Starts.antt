@@ -6,7 +6,7 @@ use Rattle.review_ops.specs.Operation.{Operation}
 abbrev pub HasNoLater : ℕ → ℕ → List Operation → Type 0
 HasNoLater site start ops = All (λ op. op.stamp.site ≡ site → op.stamp.start ≤ start) ops
 
--- the least of which this holds: the greatest start of the site's operations, or 0 where it has none
+-- the least such start: the greatest start of the site's operations, or 0 where it has none
 abbrev pub IsLatest : ℕ → ℕ → List Operation → Type 0
 IsLatest site latest ops = HasNoLater site latest ops × ((start : ℕ) → HasNoLater site start ops → latest ≤ start)
 

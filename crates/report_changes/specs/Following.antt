@@ -10,19 +10,19 @@ use Rattle.report_changes.specs.declared.lines.Line.TheVariants.{NotReady, Ready
 use Rattle.report_changes.specs.Listing.{listed_of, same_item, IsLeftOutFor}
 use Rattle.report_changes.specs.Lines.{changed}
 
--- how a listed item stands
+-- the verdict on a listed item
 pub data Stand : Type 0 where
   stands_ready : Stand
   stands_out : Refusal → Stand
 
--- how each item stands that is listed; of one that isn't, nothing
+-- the verdict on each item that is listed; of one that isn't, nothing
 abbrev pub Held : Type 0
 Held = Item → Option Stand
 
 abbrev pub nothing_listed : Held
 nothing_listed item = None
 
--- one item stands so from now on
+-- one item has this verdict from now on
 abbrev pub put : Item → Option Stand → Held → Held
 put item stand held other = if same_item item other then stand else held other
 
@@ -49,7 +49,7 @@ all_changed before (verdicts ∷ later) = changed before (listed_of verdicts) ++
 
 -- ---- what is to be held of verdicts
 
--- so the item stands in this listing
+-- the item has this verdict in this listing
 abbrev pub StandsIn : Judged → Item → Option Stand → Type 0
 StandsIn listing item None = (¬ Contains listing.ready item) × (¬ Contains (items_out listing.out) item)
 StandsIn listing item (Some stands_ready) = Contains listing.ready item

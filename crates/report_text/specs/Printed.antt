@@ -35,6 +35,7 @@ pub record IsSmallLeft (left : Left) : Type 0 where
   pub item : IsSmallItem left.item
   pub refusal : IsSmallRefusal left.refusal
 
+-- all numbers of the verdicts are below their bounds
 pub record AreSmall (verdicts : Judged) : Type 0 where
   pub ready : AllByRecursion IsSmallItem verdicts.ready
   pub out : AllByRecursion IsSmallLeft verdicts.out

@@ -1,4 +1,4 @@
--- The order of deeds and of operations is total, and tells any two apart.
+-- The order of deeds and of operations is total, and any two that compare equal are equal.
 use Rattle.std.specs.Prelude.{◌≡◌, ℕ, ℤ, pos, List, [], Option, Some, None, refl}
 use Rattle.std.specs.declared.cmp.Ordering.{Ordering}
 use Rattle.std.specs.declared.cmp.Ordering.TheVariants.{Less, Equal, Greater}

@@ -40,10 +40,12 @@ pub record IsReply (r : Reply) : Type 0 where
   pub nonce_long : length r.nonce ≡ 16
   pub nonce : IsBytes r.nonce
 
+-- a proof has 32 bytes
 pub record IsProof (proof : List ℕ) : Type 0 where
   pub long : length proof ≡ 32
   pub bytes : IsBytes proof
 
+-- an answer that can be written: a reply with its proof, or the refusal
 abbrev pub IsKeyAnswer : Answer → Type 0
 IsKeyAnswer (Proved reply proof) = IsReply reply × IsProof proof
 IsKeyAnswer NoKey = Unit {0}

@@ -8,7 +8,7 @@ use Rattle.sealed_line.specs.declared.greeting.Greeting.{Greeting}
 use Rattle.sealed_line.specs.declared.greeting.Reply.{Reply}
 use Rattle.sealed_line.specs.declared.keys.SessionKeys.{SessionKeys}
 
--- by what a key is named without being told: eight bytes
+-- the ID of a key, which names it without disclosing it: eight bytes
 abbrev pub id_under : List ℕ → List ℕ
 id_under secret = take 8 (hmac secret (codes "reviewgate keyid"))
 

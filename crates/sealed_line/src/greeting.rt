@@ -157,7 +157,7 @@ fn write_proof<A: Allocator + Copy>(
     write_hex(into, proof.as_slice())
 }
 
-/// What stands before the last word of a text, and that word, which has this length and a blank before it; nothing
+/// What comes before the last word of a text, and that word, which has this length and a blank before it; nothing
 /// where no such word is last. It takes no memory.
 pub fn last_word(text: &[u8], size: usize) -> Option<(&[u8], &[u8])>
     ensures { MatchOption result ((front last : List ℕ) → length last ≡ size → text.now ≢ front ++ 32 ∷ last)

@@ -10,7 +10,7 @@ use super::seal::Seal;
 use keyed_digest::{Mac, Tag};
 use std::alloc::{AllocError, Allocator};
 
-/// By what a key is named without being told: eight bytes.
+/// The ID of a key, which names it without disclosing it: eight bytes.
 pub type KeyId = [u8; 8];
 
 /// What both sides of a connection have: the proof that who answers knows the secret, the seal of the lines of who

@@ -1,5 +1,5 @@
 -- Lines that are opened one after the other.
-use Rattle.std.proofs.Common.{◌≡◌, ◌≢◌, ℕ, zero, suc, ◌<◌, ◌≤◌, ◌+◌, ◌-◌, ◌++◌, [], ◌∷◌, List, sym, ◌∙◌, ap, refl, arith, length, take, length-append, append_assoc, append-nil, subst, All}
+use Rattle.std.proofs.Common.{◌≡◌, ◌≢◌, ℕ, zero, suc, ◌<◌, ◌≤◌, ◌+◌, ◌++◌, [], ◌∷◌, List, sym, ◌∙◌, ap, refl, arith, length, take, length-append, append_assoc, append-nil, subst, All}
 use Rattle.std.proofs.lemmas.List.{flat_map_more, take-append-le}
 use Rattle.std.proofs.lemmas.List.Elements.{All-append, All-nil, All-take}
 use Rattle.std.specs.List.{flat_map}

@@ -67,7 +67,7 @@ pub record OpensAll (old : Wiring) (came text : List ℕ) (new : Wiring) : Type 
   pub piece : HasNoLf new.held
   pub kept : new ≡ record old { inward = new.inward; held = new.held }
 
--- or the lines that open to this text stand before one that is refused
+-- or the lines that open to this text come before one that is refused
 abbrev pub OpensLines : {T : Type 0} → Wiring → List ℕ → List ℕ → Result T WireFault → Wiring → Type 0
 OpensLines old came text (Ok _) new = OpensAll old came text new
 OpensLines old came text (Err fault) new = IsRefusedAfter old.inward (old.held ++ came) text fault × KeepsRest old new

@@ -19,7 +19,7 @@ use std::alloc::{AllocError, Global};
 const ANSWER_LIMIT: usize = 256;
 
 /// Begins a sealed connection as who comes in: sends `key 1 SITE ID NONCE`, reads the line of who answers, and nothing
-/// past its line end, and compares its proof in a time that doesn't depend on where it differs. The nonce is random
+/// past its line end, and looks at each byte of its proof, wherever the first difference is. The nonce is random
 /// bytes, other ones each time. Refusals: `ReadFault`, `WriteFault`, an end failed; `BadAnswer`, what came is no line
 /// of who answers, or has more than 256 bytes, or the end came before its line end; `NoKey`, it answered `no 12 NoKey`;
 /// `NotProved`, its proof isn't that of this secret over both lines; `NoMemory`. Where it is refused the connection is

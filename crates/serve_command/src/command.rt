@@ -51,7 +51,7 @@ pub enum Ended<'n> {
     Unprinted,
 }
 
-/// Runs the site that words ask for. It reads and judges the gate file, then the snapshot and the keys, if they are
+/// Runs the site that the command line asks for. It reads and judges the gate file, then the snapshot and the keys, if they are
 /// named, tries whether a snapshot could be saved, opens the journal, asks whether the start was used, listens and
 /// prints `listening ADDRESS` for each address and, where it shows itself to browsers, `listening http ADDRESS`, runs
 /// the site and saves what it has. What is wrong while it runs is written to `errors`. Where it is to end with its input

@@ -12,7 +12,7 @@ use refusal_line::{Part, refusal_line};
 use replica_core::Replica;
 use std::alloc::{AllocError, Global};
 
-/// The greatest time of which nothing is said: half of those that there are.
+/// 2^63: a greatest time above this is reported.
 const HALF: u64 = 9_223_372_036_854_775_808;
 
 /// Writes the greatest time of a record to the error output where it is above 2^63, or the line of want of memory,

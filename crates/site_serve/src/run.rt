@@ -556,7 +556,7 @@ fn thread_ends_of<J: Naming>(
     }
 }
 
-/// What tells the threads of news, and the gates that they judge under at first.
+/// What brings news to the threads, and the gates that they judge under at first.
 fn news_of<E: Drain, T: Turn, J: Naming>(
     common: &Common<'_, E, T>,
     workers: usize,

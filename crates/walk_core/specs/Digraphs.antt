@@ -29,6 +29,7 @@ pub record AddsEdges (graph : List (List ℕ)) (E : ℕ → ℕ → Type 0) (aft
   pub nodes : length after ≡ length graph
   pub edges : (x y : ℕ) → HasEdge after x y ↔ (HasEdge graph x y ⊎ E x y)
 
+-- the node is marked
 abbrev pub IsMarked : List Bool → ℕ → Type 0
 IsMarked marked x = slice_get marked x ≡ Some true
 
@@ -37,6 +38,7 @@ abbrev pub IsDistanceTo : List (List ℕ) → List Bool → ℕ → Option ℕ �
 IsDistanceTo graph marked x None = (n : ℕ) → ¬ Leads (HasEdge graph) (IsMarked marked) n x
 IsDistanceTo graph marked x (Some n) = IsDistance (HasEdge graph) (IsMarked marked) n x
 
+-- the distance of each node to the marked ones
 pub record AreDistances (graph : List (List ℕ)) (marked : List Bool) (distances : List (Option ℕ)) : Type 0 where
   pub nodes : length distances ≡ length graph
   pub each : (x : ℕ) (distance : Option ℕ) → slice_get distances x ≡ Some distance
