@@ -18,8 +18,8 @@ footers_of text = filter is_footer_line (lines_of text)
 abbrev pub ended : List (List ℕ) → List ℕ
 ended lines = flat_map (λ line. line ++ 10 ∷ []) lines
 
--- the first of these lines, as many as fit into so many bytes, each with its line end: the first one that doesn't fit is
--- left out, and all after it
+-- the first of these lines, as many as fit into so many bytes, each with its line end: the first one that doesn't fit
+-- is left out, and all after it
 abbrev pub fitting : ℕ → List (List ℕ) → List (List ℕ)
 fitting room [] = []
 fitting room (line ∷ lines) = if nat_lt (length line) room then line ∷ fitting (room - suc (length line)) lines else []

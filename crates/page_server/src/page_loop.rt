@@ -55,8 +55,8 @@ struct PageLoop {
 /// where the endpoint's waker is woken after it, else within a second. At most 200 connections are open: one more takes
 /// the place of the one that has been silent longest. A request has 10 seconds to come from its first byte on, and a
 /// connection may be silent for 60. While more than 64 MiB of answers wait to be sent no request is read, and a
-/// connection that takes nothing of its answer for a second is closed. Neither a connection's failure nor the system's refusal of one ends this. Refusal:
-/// 1 `NoMemory`, memory was refused before the first request.
+/// connection that takes nothing of its answer for a second is closed. Neither a connection's failure nor the system's
+/// refusal of one ends this. Refusal: 1 `NoMemory`, memory was refused before the first request.
 pub fn serve_pages<R: Wait + Clock, P: Pages + Drop>(
     rt: &R,
     alloc: Global,

@@ -51,12 +51,12 @@ pub enum Ended<'n> {
     Unprinted,
 }
 
-/// Runs the site that the command line asks for. It reads and judges the gate file, then the snapshot and the keys, if they are
-/// named, tries whether a snapshot could be saved, opens the journal, asks whether the start was used, listens and
-/// prints `listening ADDRESS` for each address and, where it shows itself to browsers, `listening http ADDRESS`, runs
-/// the site and saves what it has. What is wrong while it runs is written to `errors`. Where it is to end with its input
-/// it ends in order at that end and at a line `stop`, and at a line `reload` the gate file is read again, by `files` as
-/// before; else the input isn't read. Keys are read by `keys`.
+/// Runs the site that the command line asks for. It reads and judges the gate file, then the snapshot and the keys, if
+/// they are named, tries whether a snapshot could be saved, opens the journal, asks whether the start was used, listens
+/// and prints `listening ADDRESS` for each address and, where it shows itself to browsers, `listening http ADDRESS`,
+/// runs the site and saves what it has. What is wrong while it runs is written to `errors`. Where it is to end with its
+/// input it ends in order at that end and at a line `stop`, and at a line `reload` the gate file is read again, by
+/// `files` as before; else the input isn't read. Keys are read by `keys`.
 pub fn serve<'n, R, I, N, E, L>(
     rt: R,
     alloc: Global,

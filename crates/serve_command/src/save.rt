@@ -65,8 +65,8 @@ impl<R: Files> Saves for SnapshotFile<R> {
     }
 }
 
-/// Makes a new file beside a file that is no folder, and removes it. What is there already, which a save replaces unless
-/// it is a folder, stays there: another site may be about to save.
+/// Makes a new file beside a file that is no folder, and removes it. What is there already, which a save replaces
+/// unless it is a folder, stays there: another site may be about to save.
 fn try_beside<R: Files>(rt: &R, alloc: Global, name: &str) -> io::Result<()> {
     refuse_folder(rt, name)?;
     let beside = format!(in alloc; "{name}.new")?;

@@ -45,8 +45,8 @@ pub fn sites_that_pulled_print_the_same()
 }
 
 /// A law: whatever a crash leaves of what keeps a site's operations says an operation of each stamp of which the site
-/// has published one, where that had the record of the opening. `OwnLedger` is always one of its opening, and a stamp is
-/// answered with the receipt of a publish, which shows what its ledger has published.
+/// has published one, where that had the record of the opening. `OwnLedger` is always one of its opening, and a stamp
+/// is answered with the receipt of a publish, which shows what its ledger has published.
 pub fn answered_stamps_survive<J: Opening, K: Keeps>()
     ensures { (entries : Entries K) → (first : List Operation) → (stamp : Option Timestamp)
         → IsOfOpening K.holds K.survives J.book J.journal J.had entries → J.had first → IsPartOf J.journal first

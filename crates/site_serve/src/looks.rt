@@ -31,8 +31,8 @@ use site_shared::{BrandedReceipt, Naming};
 use std::alloc::Global;
 use std::sync::{Arc, Wait};
 
-/// Does the jobs of sessions until no more come or nobody takes what was done, each under the gate that is in force when
-/// it begins.
+/// Does the jobs of sessions until no more come or nobody takes what was done, each under the gate that is in force
+/// when it begins.
 pub(super) fn do_jobs<R: Wait, E: Drain, T: Turn, J: Naming>(
     rt: &R,
     alloc: Global,

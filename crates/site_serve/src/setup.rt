@@ -133,6 +133,6 @@ pub trait Turn: KeyReader {
     /// The session is answered from now on.
     fn enter(&self, session: u64);
 
-    /// The session has ended.
+    /// The session has ended. Of one that the end of the site cut off it may not be said.
     fn left(&self, session: u64);
 }
