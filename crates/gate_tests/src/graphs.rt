@@ -86,7 +86,9 @@ fn assert_shown(rt: &impl Abort, alloc: Global, steps: &[Step], wanted: &str) {
 
 /// Whether just these items wait for the change in the graph of these operations, where memory suffices for that.
 fn has_namers(alloc: Global, steps: &[Step], change: u32, wanted: &[Item]) -> Option<bool> {
-    Some(graph_of(alloc, steps)?.namers(change) == wanted)
+    let graph = graph_of(alloc, steps)?;
+    let named: Vec<Item> = graph.namers(change).collect(alloc).ok()?;
+    Some(named.as_slice() == wanted)
 }
 
 /// In the graph of these operations just these items wait for the change.

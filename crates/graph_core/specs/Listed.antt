@@ -1,6 +1,5 @@
 -- The items of a state, listed change by change, and which of a list is the last of a change.
-use Rattle.std.specs.Prelude.{◌≡◌, ◌≤◌, ◌↔◌, ℕ, List, [], Option, None, Some, Contains, map, flat_map}
-use Rattle.std.specs.declared.vec.Vec.{Vec}
+use Rattle.std.specs.Prelude.{◌≡◌, ◌≤◌, ◌↔◌, ℕ, List, Contains, map, flat_map}
 use Rattle.std.specs.List.Sorted.{IsStrictlyIncreasing}
 use Rattle.std.specs.FinMap as finite
 use Rattle.review_ops.specs.Timestamp.{Timestamp}
@@ -32,8 +31,3 @@ pub record ArePlaces (items : List Item) (numbers places : List ℕ) : Type 0 wh
   pub increasing : IsStrictlyIncreasing places
   pub each : (place : ℕ)
       → Contains places place ↔ ((number : ℕ) × Contains numbers number × IsLastOf items number place)
-
--- the items that a map has at a change
-abbrev pub items_at : {X Z : Type 0} → Option (Vec X Z) → List X
-items_at None = []
-items_at (Some named) = named.items

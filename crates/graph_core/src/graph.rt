@@ -5,13 +5,12 @@ ghost use Rattle.walk_core.specs.Digraphs.{ends_of};
 ghost use Rattle.graph_core.specs.ItemGraph.{AreItems, ArePart, IsGraphOf, StandsAt, namers_of};
 
 use super::items::{items_of, place_of};
-use super::namers::all_namers;
+use super::namers::Namers;
 use super::targets::{all_ends, all_targets};
 use gate_rules::Gate;
 use lattice_core::NoMemory;
 use state_core::{Item, State};
 use std::alloc::Global;
-use std::collections::BTreeMap;
 use std::marker::Model;
 use walk_core::Digraph;
 
@@ -23,7 +22,6 @@ pub struct Graph {
     targets: Vec<Vec<u32>>,
     digraph: Digraph,
     on_cycle: Vec<bool>,
-    namers: BTreeMap<u32, Vec<Item>>,
 }
 
 impl Model for Graph {
@@ -41,7 +39,7 @@ impl Model for Graph {
     } };
 
     ghost invariant = { λ graph. KeepsGraph graph.items.items (map (λ row. row.items) graph.targets.items) graph.digraph
-        graph.on_cycle.items graph.namers };
+        graph.on_cycle.items };
 }
 
 impl Graph {
@@ -71,7 +69,6 @@ impl Graph {
     {
         let targets = all_targets(alloc, gate, state, items.as_slice())?;
         let ends = all_ends(alloc, items.as_slice(), targets.as_slice())?;
-        let namers = all_namers(alloc, items.as_slice(), targets.as_slice())?;
         let digraph = Digraph::new(alloc, ends)?;
         let on_cycle = digraph.on_cycles()?;
         Ok(Graph {
@@ -79,7 +76,6 @@ impl Graph {
             targets,
             digraph,
             on_cycle,
-            namers,
         })
     }
 
@@ -98,14 +94,11 @@ impl Graph {
         self.targets_at(place_of(self.items.as_slice(), item))
     }
 
-    /// The items that wait for a change, in order. It costs O(log n) for n items.
-    pub fn namers(&self, change: u32) -> &[Item]
-        ensures { result.now ≡ namers_of self.now.items self.now.targets change }
+    /// The items that wait for a change, in order. It costs O(m) for m changes that items wait for, all together.
+    pub fn namers(&self, change: u32) -> Namers<'_>
+        ensures { result ≡ namers_of self.now.items self.now.targets change }
     {
-        match self.namers.get(&change) {
-            Some(items) => items.as_slice(),
-            None => &[],
-        }
+        Namers::among(&self.items, &self.targets, change)
     }
 
     /// Whether an item is on a cycle. It costs O(log n) for n items.

@@ -32,5 +32,6 @@ mod targets;
 
 pub use graph::Graph;
 pub use items::{add_items, items_of};
+pub use namers::Namers;
 pub use part::part_with;
 pub use targets::names_of;

@@ -1,65 +1,61 @@
-//! Which items wait for each change.
+//! The items that wait for a change.
 
-ghost use Rattle.std.specs.Prelude.{◌≡◌, ◌==◌, ◌++◌, ◌∷◌, ℕ, [], All, IfOk, OnOk, length, map, if◌then◌else◌};
-ghost use Rattle.std.specs.Ordering.{nat_cmp};
-ghost use Rattle.std.specs.BTreeMap.{get};
-ghost use Rattle.std.specs.List.Sorted.{IsStrictlyIncreasing};
-ghost use Rattle.graph_core.specs.ItemGraph.{has, namers_of};
-ghost use Rattle.graph_core.specs.Listed.{items_at};
+ghost use Rattle.std.specs.Prelude.{◌≡◌, map};
+ghost use Rattle.graph_core.specs.ItemGraph.{namers_of};
 
-use lattice_core::NoMemory;
 use state_core::Item;
-use std::alloc::Global;
-use std::collections::BTreeMap;
+use std::marker::Model;
 
-/// The items that wait for each change that some item waits for, in order.
-pub fn all_namers(
-    alloc: Global,
-    items: &[Item],
-    rows: &[Vec<u32>],
-) -> Result<BTreeMap<u32, Vec<Item>>, NoMemory>
-    requires rows { length rows.now ≡ length items.now }
-    requires increasing { All (λ row. IsStrictlyIncreasing row.items) rows.now }
-    ensures { IfOk result (λ namers. (number : ℕ) → items_at (get nat_cmp namers number)
-        ≡ namers_of items.now (map (λ row. row.items) rows.now) number) }
-{
-    let mut namers = BTreeMap::new(alloc);
-    for place in 0..items.len() {
-        add_namer(&mut namers, alloc, items[place], rows[place].as_slice())?;
-    }
-    Ok(namers)
+/// The items that wait for a change, in order. Contracts see those that are left. It takes no memory, and costs O(m)
+/// for m changes that items wait for, all together.
+#[derive(Drop)]
+pub struct Namers<'a> {
+    change: u32,
+    items: &'a [Item],
+    targets: &'a [Vec<u32>],
 }
 
-/// Adds an item that waits for some changes.
-fn add_namer(
-    namers: &mut BTreeMap<u32, Vec<Item>>,
-    alloc: Global,
-    item: Item,
-    targets: &[u32],
-) -> Result<(), NoMemory>
-    requires { IsStrictlyIncreasing targets.now }
-    ensures { OnOk result ((number : ℕ) → items_at (get nat_cmp namers.new number)
-        ≡ (if has targets.now number then items_at (get nat_cmp namers.old number) ++ item ∷ []
-        else items_at (get nat_cmp namers.old number))) }
-{
-    for target in targets {
-        add_at(namers, alloc, item, *target)?;
-    }
-    Ok(())
+impl<'a> Model for Namers<'a> {
+    ghost use Rattle.std.specs.Prelude.{List, map};
+    ghost use Rattle.state_core.specs.declared.item.Item.{Item as GivenItem};
+    ghost use Rattle.graph_core.specs.ItemGraph.{namers_of};
+
+    ghost Value = { List GivenItem };
+
+    ghost view = { λ namers. namers_of namers.items.now (map (λ row. row.items) namers.targets.now) namers.change };
 }
 
-/// Adds an item that waits for a change.
-fn add_at(
-    namers: &mut BTreeMap<u32, Vec<Item>>,
-    alloc: Global,
-    item: Item,
-    target: u32,
-) -> Result<(), NoMemory>
-    ensures { OnOk result ((number : ℕ) → items_at (get nat_cmp namers.new number)
-        ≡ (if target == number then items_at (get nat_cmp namers.old number) ++ item ∷ []
-        else items_at (get nat_cmp namers.old number))) }
-{
-    let named = namers.entry(target)?.or_insert(Vec::new(alloc));
-    named.push(item)?;
-    Ok(())
+impl<'a> Namers<'a> {
+    /// Those of the items that wait for a change, where each row has what the item beside it waits for.
+    pub(crate) fn among(items: &'a [Item], targets: &'a [Vec<u32>], change: u32) -> Namers<'a>
+        ensures { result ≡ namers_of items.now (map (λ row. row.items) targets.now) change }
+    {
+        Namers {
+            change,
+            items,
+            targets,
+        }
+    }
+}
+
+impl<'a> Iterator for Namers<'a> {
+    ghost use Rattle.std.specs.Iterator.{YieldsFirst, item_count};
+
+    type Item = Item;
+
+    ghost next_gives = { YieldsFirst (λ namers. namers) };
+
+    ghost remaining = { item_count (λ namers. namers) };
+
+    fn next(&mut self) -> Option<Item> {
+        while let Some((item, items)) = self.items.split_first() {
+            let (row, targets) = self.targets.split_first()?;
+            self.items = items;
+            self.targets = targets;
+            if row.contains(&self.change) {
+                return Some(*item);
+            }
+        }
+        None
+    }
 }

@@ -28,7 +28,6 @@ use Rattle.state_core.specs.declared.item.Item.{Item}
 use Rattle.state_core.specs.State.{State, state_of}
 use Rattle.state_core.specs.Items.{IsItem, item_cmp}
 use Rattle.graph_core.specs.Dependencies.{IsDependency, IsTarget, Names}
-use Rattle.graph_core.specs.Listed.{items_at}
 use Rattle.graph_core.specs.ItemGraph.{AreItems, AreTargets, IsGraphOf, ItemGraph, StandsAt}
 use Rattle.ready_core.specs.declared.ranked.ItemRank.{ItemRank}
 use Rattle.ready_core.specs.ItemRanks.{to_rank}
@@ -39,7 +38,7 @@ use Rattle.ready_core.specs.Verdicts.{AreVerdicts, Judged, items_out}
 use Rattle.ready_core.specs.WholeLaws.{on_all_items}
 use Rattle.watch_core.specs.BroughtUp.{AreRankedVerdicts, HoldsItems, IsBroughtUp}
 use Rattle.watch_core.specs.Namers.{HaveNamers, HaveRows, HoldNamers, IsNamer, KeepsNamers, Namers, Rows, has_item}
-use Rattle.watch_core.specs.Namers.{is_again, is_reached, namer_row, namer_rows}
+use Rattle.watch_core.specs.Namers.{is_again, is_reached, namer_row, namer_rows, items_at}
 use Rattle.watch_core.specs.Placed.{AreLists, FindsAgain, IsIn, IsOneEach, StandOnce, left_item, node_of}
 use Rattle.watch_core.specs.Touched.{HoldsWhatWaits, touches}
 use Rattle.watch_core.specs.Untouched.{IsUntouched, others}

@@ -5,7 +5,6 @@ use Rattle.std.specs.BTreeMap.{get}
 use Rattle.std.specs.BTreeSet.{BTreeSet, contains}
 use Rattle.std.specs.Global.{Vec}
 use Rattle.lattice_core.specs.Keep.{numbers_exact}
-use Rattle.graph_core.specs.Listed.{items_at}
 use Rattle.std.specs.Ordering.{is_eq, nat_cmp}
 use Rattle.std.specs.declared.cmp.Ordering.{Ordering}
 use Rattle.std.specs.declared.cmp.Ordering.TheVariants.{Less, Equal, Greater}
@@ -22,7 +21,7 @@ use Rattle.state_core.specs.Items.{IsCurrentItem}
 use Rattle.gate_rules.specs.Rules.{GateRules}
 use Rattle.graph_core.specs.Dependencies.{IsDependency}
 use Rattle.watch_core.specs.Namers.{AddsWaiting, AreAdded, HaveNamers, HoldNamers, IsNamer, IsSpreading, KeepsNamers, Namers}
-use Rattle.watch_core.specs.Namers.{has_item, is_reached, namer_pair_cmp}
+use Rattle.watch_core.specs.Namers.{has_item, is_reached, namer_pair_cmp, items_at}
 use Rattle.watch_core.specs.Touched.{HoldsWhatWaits, touches}
 use Rattle.watch_core.proofs.KeptLemmas.{touched_of, touches_of}
 use Rattle.watch_core.proofs.Local.{same_current}

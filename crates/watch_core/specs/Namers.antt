@@ -4,6 +4,7 @@ use Rattle.std.specs.Map.{lookup}
 use Rattle.std.specs.Ordering.{is_eq, nat_cmp, ordering_then}
 use Rattle.std.specs.declared.cmp.Ordering.{Ordering}
 use Rattle.std.specs.Global.{Vec}
+use Rattle.std.specs.declared.vec.Vec.{Vec as AnyVec}
 use Rattle.std.specs.BTreeMap.{BTreeMap, get}
 use Rattle.std.specs.BTreeSet.{BTreeSet, contains}
 use Rattle.review_ops.specs.Operation.{Operation}
@@ -14,7 +15,11 @@ use Rattle.state_core.specs.declared.item.Item.{Item}
 use Rattle.state_core.specs.State.{State}
 use Rattle.state_core.specs.Items.{IsCurrentItem}
 use Rattle.graph_core.specs.Dependencies.{IsTarget}
-use Rattle.graph_core.specs.Listed.{items_at}
+
+-- the items that a map has at a change
+abbrev pub items_at : {X Z : Type 0} → Option (AnyVec X Z) → List X
+items_at None = []
+items_at (Some named) = named.items
 
 abbrev pub Namers : Type 0
 Namers = BTreeMap ℕ (Vec Item)

@@ -3,8 +3,7 @@
 ghost use Rattle.std.specs.Prelude.{◌≡◌, ℕ, List, OnOk, Contains};
 ghost use Rattle.state_core.specs.declared.item.Item.{Item};
 ghost use Rattle.graph_core.specs.ItemGraph.{StandsAt};
-ghost use Rattle.graph_core.specs.Listed.{items_at};
-ghost use Rattle.watch_core.specs.Namers.{KeepsNamers, IsNamer};
+ghost use Rattle.watch_core.specs.Namers.{KeepsNamers, IsNamer, items_at};
 
 use graph_core::Graph;
 use lattice_core::NoMemory;

@@ -5,8 +5,7 @@ ghost use Rattle.std.specs.Ordering.{nat_cmp};
 ghost use Rattle.std.specs.BTreeMap.{get};
 ghost use Rattle.review_ops.specs.Deed.{change_of};
 ghost use Rattle.state_core.specs.Items.{IsCurrentItem};
-ghost use Rattle.graph_core.specs.Listed.{items_at};
-ghost use Rattle.watch_core.specs.Namers.{AddsWaiting, HoldNamers, is_again, is_reached};
+ghost use Rattle.watch_core.specs.Namers.{AddsWaiting, HoldNamers, is_again, is_reached, items_at};
 
 use super::namers::Namers;
 use lattice_core::NoMemory;

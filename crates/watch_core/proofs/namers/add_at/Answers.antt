@@ -1,5 +1,5 @@
 use Rattle.std.proofs.Common.{Contains, ◌∙◌, ap, sym, subst}
-use Rattle.graph_core.specs.Listed.{items_at}
+use Rattle.watch_core.specs.Namers.{items_at}
 use Rattle.watch_core.proofs.Spread.{exchanged}
 use Rattle.watch_core.proofs.namers.add_at.Goals as goal
 

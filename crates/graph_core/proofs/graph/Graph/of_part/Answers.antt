@@ -1,11 +1,11 @@
-use Rattle.std.proofs.Common.{◌∙◌, ℕ, List, Vec, Global, map, subst, sym, ap, length}
+use Rattle.std.proofs.Common.{◌∙◌, ℕ, List, Vec, Global, map, subst, sym}
 use Rattle.std.specs.Prelude.{All}
 use Rattle.std.specs.List.{AllZip}
 use Rattle.std.specs.List.Sorted.{IsStrictlyIncreasing}
 use Rattle.std.proofs.lemmas.List.{length-map}
 use Rattle.state_core.specs.Items.{IsItem}
 use Rattle.graph_core.specs.Dependencies.{IsDependency}
-use Rattle.graph_core.specs.ItemGraph.{AreEnds, namers_of}
+use Rattle.graph_core.specs.ItemGraph.{AreEnds}
 use Rattle.graph_core.specs.WalkLaws.{ends_within, flags_of_cycles}
 use Rattle.lattice_core.specs.ZipLaws.{length-AllZip}
 use Rattle.graph_core.proofs.Building.{part_are_items, as_many_rows, rows_rise, target_rows, end_rows}
@@ -23,17 +23,6 @@ all_targets-requires c =
 pub all_ends-requires-clause-increasing : goal.all_ends-requires-clause-increasing
 all_ends-requires-clause-increasing c =
     subst (All (λ row. IsStrictlyIncreasing (in_row row))) (sym c.as_slice-3.ensures.value)
-    (rows_rise in_row in_row c.args.gate.now c.args.state.now c.args.items.items c.in_ok-targets.targets.items c.as_slice.result.now c.as_slice.ensures.value c.in_ok-targets.ensures)
-
-pub all_namers-requires-clause-rows : goal.all_namers-requires-clause-rows
-all_namers-requires-clause-rows c =
-    ap length c.as_slice-5.ensures.value
-    ∙ as_many_rows in_row in_row c.args.gate.now c.args.state.now c.args.items.items c.in_ok-targets.targets.items c.as_slice.result.now c.as_slice.ensures.value c.in_ok-targets.ensures
-    ∙ ap length (sym c.as_slice-4.ensures.value)
-
-pub all_namers-requires-clause-increasing : goal.all_namers-requires-clause-increasing
-all_namers-requires-clause-increasing c =
-    subst (All (λ row. IsStrictlyIncreasing (in_row row))) (sym c.as_slice-5.ensures.value)
     (rows_rise in_row in_row c.args.gate.now c.args.state.now c.args.items.items c.in_ok-targets.targets.items c.as_slice.result.now c.as_slice.ensures.value c.in_ok-targets.ensures)
 
 pub new-requires : goal.new-requires
@@ -59,9 +48,6 @@ invariant_of-result c =
       rows = length-map c.in_ok-targets.targets.items in_row ∙ rows;
       nodes = nodes;
       flags = c.in_ok-on_cycle.ensures.nodes ∙ nodes;
-      named = λ number. c.in_ok-namers.ensures number
-          ∙ ap (λ l. namers_of l (map in_row c.as_slice-5.result.now) number) c.as_slice-4.ensures.value
-          ∙ ap (λ l. namers_of items (map in_row l) number) c.as_slice-5.ensures.value;
     }
 
 pub returns-clause-graph : goal.returns-clause-graph
