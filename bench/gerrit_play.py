@@ -56,6 +56,7 @@ class PatchSet:
     uploader: Account
     created: int
     votes: dict = field(default_factory=dict)  # (label, account) to a value, which isn't 0
+    copied: set = field(default_factory=set)  # those of them that are copies of votes on the patch set before
 
 
 @dataclass
@@ -216,29 +217,45 @@ class Gerrit:
         number = len(change.patch_sets) + 1
         patch = PatchSet(number, self.revision(), parent, message, kind, uploader, int(time.time()))
         if change.patch_sets:
-            patch.votes = {
-                (label, by): value
-                for (label, by), value in change.current.votes.items()
-                if label in COPIED[kind] or value == -2
-            }
+            votes = change.current.votes.items()
+            patch.votes = {(label, by): value for (label, by), value in votes if is_copied(label, value, kind)}
+            patch.copied = set(patch.votes)
         change.patch_sets.append(patch)
         self.places[change.project, patch.revision] = (change, patch)
         self.touch(change)
         return patch
 
     def comment(self, change: Change, patch: PatchSet, author: Account, votes: dict) -> None:
-        """A comment with votes or without: its event lists all labels of its author, also those that stay."""
+        """A comment with votes or without: its event lists all labels of its author, also those that stay. What a vote
+        on an older patch set alters on later ones no event says.
+        """
         approvals = []
         for label in LABELS:
             old = patch.votes.pop((label, author), 0)
             new = votes.get(label, old)
             if new:
                 patch.votes[label, author] = new
+            if new != old:
+                patch.copied.discard((label, author))
+                self.copy_vote(change, patch, label, author)
             changed = {"oldValue": str(old)} if new != old else {}
             approvals.append({"type": label, "description": label, "value": str(new)} | changed)
         self.touch(change)
         text = f"Patch Set {patch.number}:"
         self.emit("comment-added", change, patch, author=author.attribute(), approvals=approvals, comment=text)
+
+    @staticmethod
+    def copy_vote(change: Change, patch: PatchSet, label: str, by: Account) -> None:
+        """Alters the copies of a vote on later patch sets, up to one on which the same account has voted itself."""
+        value = patch.votes.get((label, by), 0)
+        for later in change.patch_sets[patch.number :]:
+            if (label, by) in later.votes.keys() - later.copied:
+                return
+            later.votes.pop((label, by), None)
+            value = value if is_copied(label, value, later.kind) else 0
+            if value:
+                later.votes[label, by] = value
+                later.copied.add((label, by))
 
     def delete_vote(self, change: Change, label: str, voter: Account, remover: Account) -> None:
         old = change.current.votes.pop((label, voter))
@@ -312,6 +329,11 @@ class Gerrit:
             rows = [compact(self.row(change, options)) for change in page]
         stats = {"type": "stats", "rowCount": len(rows), "runTimeMilliseconds": int(1000 * (time.monotonic() - began))}
         return rows + [compact(stats | {"moreChanges": len(found) > start + limit})]
+
+
+def is_copied(label: str, value: int, kind: str) -> bool:
+    """Whether a new patch set of this kind keeps a vote of the one before."""
+    return label in COPIED[kind] or value == -2
 
 
 def reference(change: Change, patch: PatchSet) -> str:

@@ -1078,7 +1078,7 @@ class Feed:
         told = told_by(line, self.known, self.projects)
         self.is_sure = self.is_sure and not (told.part is None or told.part == "row" and told.change is None)
         self.before(told)
-        for found in told.found:
+        for found in self.in_turn(told.found):
             if found is DROPPED:
                 raise FeedEnds(f"2 Dropped {number}")
             if isinstance(found, str):
@@ -1102,6 +1102,10 @@ class Feed:
 
     def before(self, told: Told) -> None:
         """What is said of a line before it is met."""
+
+    def in_turn(self, found: list) -> list:
+        """What was found in a line, in the order in which it is met."""
+        return found
 
     def meet(self, number: int, found) -> None:
         raise NotImplementedError
@@ -1137,9 +1141,9 @@ class Offered(Feed):
             self.output += b"ask %d\n" % number
 
     def asked(self, told: Told) -> list:
-        """The changes that have to be queried: that of an event which brings a patch set, restores an abandoned change
-        or of which something was lost; what a new patch set of an event, but for the first, may outdate; and what it or
-        that of an open row waits for and the record doesn't know.
+        """The changes that have to be queried: that of an event which brings a patch set, restores an abandoned change,
+        alters a vote on a patch set that was replaced, or of which something was lost; what a new patch set of an
+        event, but for the first, may outdate; and what it or that of an open row waits for and the record doesn't know.
         """
         patches = [found.deed if isinstance(found, Shown) else found for found in told.found]
         patches = [deed for deed in patches if isinstance(deed, Deed) and deed.kind == "patchset"]
@@ -1148,7 +1152,7 @@ class Offered(Feed):
             patches = [deed for deed in patches if (deed.change, deed.set) not in self.state.sets]
             asked = {deed.change for deed in patches}
             asked |= {child for deed in patches if deed.set > 1 for child in self.children(deed.change)}
-            asked |= {found.change for found in told.found if self.is_return(found)}
+            asked |= {found.change for found in told.found if self.is_return(found) or self.is_late(found)}
             if told.change is not None and any(isinstance(found, str) for found in told.found):
                 asked.add(told.change)
         elif Deed("restore", told.change or 0) not in told.found:
@@ -1161,6 +1165,11 @@ class Offered(Feed):
         is_restore = isinstance(found, Deed) and found.kind == "restore"
         return is_restore and self.state.status(found.change) == "ABANDONED"
 
+    def is_late(self, found) -> bool:
+        """A vote, given or taken back, on a patch set that a later one has replaced, which the record doesn't say."""
+        is_vote = isinstance(found, Deed) and found.kind in ("vote", "withdraw")
+        return is_vote and found.set < self.state.current.get(found.change, 0) and not self.is_recorded(found)
+
     def children(self, parent: int) -> list:
         """The open changes whose current patch set has this parent."""
         current = [(change, self.state.sets[change, number][1]) for change, number in self.state.current.items()]
@@ -1172,6 +1181,10 @@ class Offered(Feed):
 
     def is_known(self, change: int) -> bool:
         return change in self.state.current or change in self.state.merged
+
+    def in_turn(self, found: list) -> list:
+        """The votes below 0 first, and then all that was found."""
+        return [one for one in found if isinstance(one, Deed) and one.kind == "vote" and one.value < 0] + found
 
     def meet(self, number: int, found) -> None:
         if isinstance(found, Deed) and found.kind in ("abandon", "restore") and found.change in self.state.merged:

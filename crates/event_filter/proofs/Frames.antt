@@ -1,15 +1,19 @@
 -- What is written in one place changes nothing in another.
-use Rattle.std.specs.Prelude.{◌≡◌, ◌≢◌, ℕ, pos, true, false, cond}
+use Rattle.std.specs.Prelude.{◌≡◌, ◌≢◌, ℕ, pos, true, false, cond, IsSome, None, Option, Some}
+use Rattle.std.specs.FinMap.{get}
+use Rattle.std.proofs.lemmas.Bool.{false≢true}
 use Rattle.std.specs.Ordering.{nat_cmp, ord_max, eq_by_cmp}
 use Rattle.std.proofs.Common.{refl, sym, ap, ◌∙◌, subst}
 use Rattle.lattice_core.specs.Exact.{same_by_test}
+use Rattle.lattice_core.specs.Join.{option_joined}
+use Rattle.lattice_core.specs.JoinMap.{get-map_joined}
 use Rattle.lattice_core.specs.Keep.{numbers_exact}
 use Rattle.review_ops.specs.Deed.{Deed, change_of, patch_set, vote, withdraw, abandon, restore, merged}
 use Rattle.review_ops.specs.Operation.{Operation}
 use Rattle.review_ops.specs.Timestamp.{Timestamp}
-use Rattle.change_core.specs.Slots.{Slot, slots_exact}
+use Rattle.change_core.specs.Slots.{Patch, Slot, slots_exact}
 use Rattle.change_core.specs.Change.{Change, change_joined, effect_by, effect_of, patch_order, vote_order}
-use Rattle.change_core.specs.Views.{status_of}
+use Rattle.change_core.specs.Views.{IsKnownSet, status_of}
 use Rattle.state_core.specs.State.{State, with_effect}
 use Rattle.event_filter.specs.Recorded.{change_at, patch_at, score_at, score_by}
 use Rattle.event_filter.specs.Truth.{place_written, patch_place, score_place, status_place}
@@ -94,3 +98,27 @@ status_stays_apart state op change apart =
     seen_apart status_of state op change
     (λ is. status_apart (change_at state change) op.stamp op.deed
     (subst (λ n. place_written op.deed ≢ status_place n) is apart))
+
+-- ---- which patch sets are known
+
+some_joined : {T : Type 0} (joined : T → T → T) (o p : Option T) → IsSome o → IsSome (option_joined joined o p)
+some_joined joined None p known = absurd (false≢true known)
+some_joined joined (Some x) None known = refl
+some_joined joined (Some x) (Some y) known = refl
+
+known_joined : (c effect : Change) (set : ℕ) → IsKnownSet c set → IsKnownSet (change_joined c effect) set
+known_joined c effect set known =
+    subst (λ (held : Option (Timestamp × Patch)). IsSome held) (sym (get-map_joined numbers_exact (ord_max patch_order) c.sets effect.sets set))
+    (some_joined (ord_max patch_order) (get c.sets set) (get effect.sets set) known)
+
+-- a patch set that is known stays so
+pub known_after : (state : State) (op : Operation) (change set : ℕ) → IsKnownSet (change_at state change) set
+    → IsKnownSet (change_at (with_effect state op) change) set
+known_after state op change set known =
+    subst (λ c. IsKnownSet c set) (sym (change_after state op change))
+    (elim (eq_by_cmp nat_cmp change (change_of op.deed)) as (λ t. eq_by_cmp nat_cmp change (change_of op.deed) ≡ t → IsKnownSet (cond t (change_joined (change_at state (change_of op.deed)) (effect_of op)) (change_at state change)) set) [
+      | true ↦ λ e.
+          known_joined (change_at state (change_of op.deed)) (effect_of op) set
+          (subst (λ n. IsKnownSet (change_at state n) set) (same_by_test numbers_exact change (change_of op.deed) e) known)
+      | false ↦ λ e. known
+    ] refl)

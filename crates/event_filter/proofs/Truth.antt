@@ -17,8 +17,8 @@ use Rattle.review_ops.specs.Good.{IsFaultless-IsGood, IsGood}
 use Rattle.review_ops.specs.Operation.{Operation}
 use Rattle.review_ops.specs.Timestamp.{Timestamp}
 use Rattle.change_core.specs.Change.{Change, change_joined, effect_of}
-use Rattle.change_core.specs.Slots.{Slot, slot_cmp, slots_exact}
-use Rattle.change_core.specs.Views.{status_by, status_of}
+use Rattle.change_core.specs.Slots.{Patch, Slot, slot_cmp, slots_exact}
+use Rattle.change_core.specs.Views.{IsKnownSet, status_by, status_of}
 use Rattle.change_core.specs.Votes.{GivenApproval, GivenVote, approval_of, approvals_of, vote_at, votes_of}
 use Rattle.change_core.specs.declared.life.Life.{Life}
 use Rattle.change_core.specs.declared.life.Life.TheVariants as life
@@ -27,13 +27,14 @@ use Rattle.state_core.specs.State.{State, with_effect}
 use Rattle.gerrit_events.specs.Listings.{Listing, listing_shown}
 use Rattle.gerrit_events.specs.declared.finding.Finding.{Finding}
 use Rattle.gerrit_events.specs.declared.finding.Finding.TheVariants.{Brings, Shows, Lists, Refuses}
-use Rattle.event_filter.specs.Bringing.{AreBodies, IsBrought, IsSaidByRecord, beyond, is_listed_vote, is_unlisted, withdrawal}
+use Rattle.event_filter.specs.Bringing.{AddsTo, AreBodies, IsBrought, IsNews, IsSaidByRecord, beyond, is_listed_vote, is_unlisted}
+use Rattle.event_filter.specs.Bringing.{withdrawal}
 use Rattle.event_filter.specs.Newest.{IsNewest}
-use Rattle.event_filter.specs.Recorded.{IsRecorded, change_at, score_by}
+use Rattle.event_filter.specs.Recorded.{IsRecorded, change_at, patch_at, score_by}
 use Rattle.event_filter.specs.Truth.{AgreesWithAll, AreMet, AreNothingNew, AreTakenIn, IsNothingNew}
 use Rattle.event_filter.specs.Truth.{OneSpeaksOf, DeedPlace, SpeaksOf, place_written, score_place, status_place}
 use Rattle.event_filter.proofs.After.{said_after}
-use Rattle.event_filter.proofs.Frames.{patch_stays_apart, score_stays_apart, seen_apart, status_stays_apart}
+use Rattle.event_filter.proofs.Frames.{known_after, patch_stays_apart, score_stays_apart, seen_apart, status_stays_apart}
 
 -- ---- what is settled stays so, where nothing is written in its place
 
@@ -319,6 +320,77 @@ listed_now state mid listing bodies are taken label voter good unlisted =
       ]
     ] refl)
 
+-- ---- a patch set that is shown
+
+-- a commit that the record has, with the parent that is shown, is nothing new
+has_all : (c : Change) (set : ℕ) (message : List ℕ) (parent : Option ℕ)
+    → ¬ AddsTo c set (Some (record { message = message; parent = parent })) message parent
+has_all c set message None news = news
+has_all c set message (Some change) news = news.1 refl
+
+recorded_is_old : (state : State) (change set : ℕ) (message : List ℕ) (parent : Option ℕ)
+    → IsRecorded state (patch_set change set message parent) → ¬ IsNews state (patch_set change set message parent)
+recorded_is_old state change set message parent said news =
+    has_all (change_at state change) set message parent
+    (subst (λ p. AddsTo (change_at state change) set p message parent) said news)
+
+-- what is new to a record with more patch sets was so before
+less_news : (before after : Change) (set : ℕ) (held : Option Patch) (message : List ℕ) (parent : Option ℕ)
+    → ((k : ℕ) → IsKnownSet before k → IsKnownSet after k) → AddsTo after set held message parent
+    → AddsTo before set held message parent
+less_news before after set None message parent grows news = λ later known. news later (grows later known)
+less_news before after set (Some held) message None grows news = news
+less_news before after set (Some held) message (Some change) grows news = news
+
+old_stays : (state : State) (op : Operation) (deed : Deed) → place_written op.deed ≢ place_written deed → ¬ IsNews state deed
+    → ¬ IsNews (with_effect state op) deed
+old_stays state op (patch_set change set message parent) apart old news =
+    let after = change_at (with_effect state op) change in
+    let same = patch_stays_apart state op change set apart in
+    old (less_news (change_at state change) after set (patch_at (change_at state change) set) message parent
+    (known_after state op change) (subst (λ p. AddsTo after set p message parent) same news))
+old_stays state op (vote change set label voter value) apart old news = news
+old_stays state op (withdraw change set label voter) apart old news = news
+old_stays state op (abandon change) apart old news = news
+old_stays state op (restore change) apart old news = news
+old_stays state op (merged change) apart old news = news
+
+old_kept : (deeds : List Deed) (state new : State) (deed : Deed) → AllApart deeds (place_written deed)
+    → AreTakenIn state deeds new → ¬ IsNews state deed → ¬ IsNews new deed
+old_kept [] state new deed apart same old = subst (λ s. ¬ IsNews s deed) (sym same) old
+old_kept (other ∷ deeds) state new deed apart taken old =
+    old_kept deeds (with_effect state (record { stamp = taken.0; deed = other })) new deed apart.1 taken.2
+    (old_stays state (record { stamp = taken.0; deed = other }) deed apart.0 old)
+
+old_through : (later : List Finding) (state new : State) (deed : Deed) → AreMet state later new
+    → ¬ OneSpeaksOf later (place_written deed) → ¬ IsNews state deed → ¬ IsNews new deed
+old_through [] state new deed same unspoken old = subst (λ s. ¬ IsNews s deed) (sym same) old
+old_through (finding ∷ later) state new deed met unspoken old =
+    old_through later met.1 new deed met.4 (λ one. unspoken (inr one))
+    (old_kept met.0 state met.1 deed
+    (brought_apart state finding met.0 (place_written deed) met.2 (λ speaks. unspoken (inl speaks))) met.3 old)
+
+old_now : (state : State) (stamp : Timestamp) (deed : Deed) → IsNewest state (record { stamp = stamp; deed = deed })
+    → ¬ IsNews (with_effect state (record { stamp = stamp; deed = deed })) deed
+old_now state stamp (patch_set change set message parent) newest =
+    recorded_is_old (with_effect state (record { stamp = stamp; deed = patch_set change set message parent })) change set message parent
+    (said_after state (record { stamp = stamp; deed = patch_set change set message parent }) newest tt)
+old_now state stamp (vote change set label voter value) newest = λ news. news
+old_now state stamp (withdraw change set label voter) newest = λ news. news
+old_now state stamp (abandon change) newest = λ news. news
+old_now state stamp (restore change) newest = λ news. news
+old_now state stamp (merged change) newest = λ news. news
+
+shown_is_old : (state mid : State) (deed : Deed) (bodies : List Deed) → IsBrought state (Shows deed) bodies
+    → AreTakenIn state bodies mid → ¬ IsNews mid deed
+shown_is_old state mid deed bodies brought taken = elim brought [
+  | inl one ↦
+      let alone = subst (λ ds. AreTakenIn state ds mid) one.1 taken in
+      subst (λ s. ¬ IsNews s deed) (sym alone.2) (old_now state alone.0 deed alone.1)
+  | inr none ↦
+      subst (λ s. ¬ IsNews s deed) (sym (subst (λ ds. AreTakenIn state ds mid) none.1 taken)) none.0
+]
+
 -- ---- all findings
 
 pub agrees : (state new : State) (findings : List Finding) → AreMet state findings new → AgreesWithAll findings new
@@ -327,7 +399,10 @@ agrees state new (Brings deed ∷ later) met = (
   λ unspoken. settled_through later met.1 new deed met.4 unspoken (said_brought state met.1 deed met.0 met.2 met.3),
   agrees met.1 new later met.4,
 )
-agrees state new (Shows deed ∷ later) met = (tt, agrees met.1 new later met.4)
+agrees state new (Shows deed ∷ later) met = (
+  λ unspoken. old_through later met.1 new deed met.4 unspoken (shown_is_old state met.1 deed met.0 met.2 met.3),
+  agrees met.1 new later met.4,
+)
 agrees state new (Lists listing ∷ later) met = (
   λ label voter good unlisted unspoken.
       only_recorded new listing.change listing.set label voter

@@ -5,7 +5,7 @@ use Rattle.std.specs.BTreeSet.{BTreeSet, contains}
 use Rattle.std.specs.List.{list_any}
 use Rattle.std.specs.Ordering.{nat_cmp}
 use Rattle.footer_text.specs.Footers.{MessageNeeds}
-use Rattle.review_ops.specs.Deed.{Deed, patch_set, restore, change_of}
+use Rattle.review_ops.specs.Deed.{Deed, patch_set, vote, withdraw, restore, change_of}
 use Rattle.change_core.specs.Change.{Change}
 use Rattle.change_core.specs.Views.{IsGreatestKnown, parent_of, status_of}
 use Rattle.change_core.specs.declared.life.Status.TheVariants.{New, Abandoned}
@@ -16,7 +16,7 @@ use Rattle.gerrit_events.specs.declared.finding.Finding.{Finding}
 use Rattle.gerrit_events.specs.declared.finding.Finding.TheVariants.{Brings, Shows, Lists, Refuses}
 use Rattle.gerrit_events.specs.declared.part.Part.{Part}
 use Rattle.gerrit_events.specs.declared.part.Part.TheVariants.{Event, Row}
-use Rattle.event_filter.specs.Recorded.{change_at, patch_at}
+use Rattle.event_filter.specs.Recorded.{IsRecorded, change_at, patch_at}
 
 -- the record has nothing of the change: no patch set, and no merge
 abbrev pub IsUnknown : State → ℕ → Type 0
@@ -33,10 +33,20 @@ LacksNeeded state bases (patch_set change set message parent) number =
     ((parent ≡ Some number) ⊎ IsNamedByMessage bases change message number) × (number ≢ change) × IsUnknown state number
 LacksNeeded state bases deed number = ⊥
 
--- the record hasn't the patch set, or has the change as abandoned that is restored
+-- the change has a later patch set
+abbrev pub IsReplaced : Change → ℕ → Type 0
+IsReplaced change set = (current : ℕ) × IsGreatestKnown change current × (set < current)
+
+-- the record hasn't the patch set, or has the change as abandoned that is restored; or it doesn't say the vote, or that
+-- it was taken back, which is on a replaced patch set: Gerrit may copy it to the current one ("copyCondition" of a
+-- label), and shows it on the replaced one alone
 abbrev pub IsNew : State → Deed → Type 0
 IsNew state (patch_set change set message parent) = patch_at (change_at state change) set ≡ None
 IsNew state (restore change) = status_of (change_at state change) ≡ Abandoned
+IsNew state (vote change set label voter value) =
+    IsReplaced (change_at state change) set × ¬ IsRecorded state (vote change set label voter value)
+IsNew state (withdraw change set label voter) =
+    IsReplaced (change_at state change) set × ¬ IsRecorded state (withdraw change set label voter)
 IsNew state deed = ⊥
 
 -- the parent of its current patch set is this change

@@ -59,10 +59,11 @@ OneSpeaksOf [] place = ⊥
 OneSpeaksOf (finding ∷ findings) place = SpeaksOf finding place ⊎ OneSpeaksOf findings place
 
 -- the record says of a change what a finding says of it, where no later one speaks of the same: a deed is recorded, or
--- it is an abandon or a restore of a merged change; and who isn't listed has no score
+-- it is an abandon or a restore of a merged change; a patch set that an event shows is nothing new; and who isn't listed
+-- has no score
 abbrev pub AgreesWith : Finding → List Finding → State → Type 0
 AgreesWith (Brings deed) later state = ¬ OneSpeaksOf later (place_written deed) → IsSaidByRecord state deed
-AgreesWith (Shows deed) later state = Unit {0}
+AgreesWith (Shows deed) later state = ¬ OneSpeaksOf later (place_written deed) → ¬ IsNews state deed
 AgreesWith (Lists listing) later state =
     (label voter : List ℕ) → IsGood (withdraw listing.change listing.set label voter)
     → is_listed_vote (listing_shown listing).ballots label voter ≡ false

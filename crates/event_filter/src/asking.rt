@@ -7,11 +7,13 @@ ghost use Rattle.std.specs.Ordering.{nat_cmp};
 ghost use Rattle.footer_text.specs.Footers.{MessageNeeds};
 ghost use Rattle.review_ops.specs.Deed.{change_of};
 ghost use Rattle.event_filter.specs.Asking.{Gains, AsksFor, IsAskedBy, IsAskedByEvent, IsAskedByNews, IsAskedByRow};
-ghost use Rattle.event_filter.specs.Asking.{HasParent, IsChild, IsNamedByMessage, IsNew, IsOutdated, IsUnknown, LacksNeeded, says_open};
-ghost use Rattle.event_filter.specs.Recorded.{change_at, patch_at};
+ghost use Rattle.event_filter.specs.Asking.{HasParent, IsChild, IsNamedByMessage, IsNew, IsOutdated, IsReplaced, IsUnknown, LacksNeeded};
+ghost use Rattle.event_filter.specs.Asking.{says_open};
+ghost use Rattle.event_filter.specs.Recorded.{IsRecorded, change_at, patch_at};
 ghost use Rattle.change_core.specs.Views.{status_of};
 ghost use Rattle.change_core.specs.declared.life.Status.TheVariants.{Abandoned, New};
 
+use super::recorded::is_recorded;
 use change_core::{ChangeState, Status};
 use footer_text::{Bases, depends};
 use gerrit_events::{Finding, Part, Told};
@@ -22,8 +24,9 @@ use std::alloc::Global;
 use std::collections::BTreeSet;
 
 /// The changes that Gerrit has to be asked for, where a line is to be met by a record: the change of an event that
-/// brings a patch set which the record hasn't, that restores what the record has as abandoned, or of which something is
-/// lost; the open changes whose current patch set has that change as its parent, where the patch set is new and isn't
+/// brings a patch set which the record hasn't, that restores what the record has as abandoned, that has a vote which the
+/// record doesn't say on a patch set that was replaced (Gerrit may copy it to the current one, and has no event of
+/// that), or of which something is lost; the open changes whose current patch set has that change as its parent, where the patch set is new and isn't
 /// the first, since it may outdate them; and of such a patch set, and of that of an open row, the parent and what the
 /// message needs by these bases, where the record has no patch set of that change and no merge. Refused is only memory.
 /// It costs O(n + m log k) for n bytes of messages and m of such changes, of k changes of the record, and O(k) more
@@ -128,7 +131,7 @@ fn add_new(
     ensures { OnOk result (Gains (IsAskedByNews state.now (option_map (λ bases. bases.now) bases.entry) body.now)
         asks.old asks.new) }
 {
-    if !is_new(state, body) {
+    if !is_new(state, body)? {
         return Ok(());
     }
     asks.insert(body.change())?;
@@ -136,14 +139,49 @@ fn add_new(
     add_outdated(state, body, asks)
 }
 
-/// Whether the record hasn't a patch set, or has what is restored as abandoned.
-fn is_new(state: &State, body: &Body) -> bool
-    ensures { IsTrue result ↔ IsNew state.now body.now }
+/// Whether the record hasn't a patch set, has what is restored as abandoned, or doesn't say a vote on a patch set that
+/// was replaced.
+fn is_new(state: &State, body: &Body) -> Result<bool, NoMemory>
+    ensures { IfOk result (λ new. IsTrue new ↔ IsNew state.now body.now) }
 {
     match body.draft() {
-        Draft::PatchSet { change, set, .. } => is_new_set(state, *change, *set),
-        Draft::Restore { change } => is_abandoned(state, *change),
-        _ => false,
+        Draft::PatchSet { change, set, .. } => Ok(is_new_set(state, *change, *set)),
+        Draft::Restore { change } => Ok(is_abandoned(state, *change)),
+        Draft::Vote { change, set, .. } => is_late(state, *change, *set, body),
+        Draft::Withdraw { change, set, .. } => is_late(state, *change, *set, body),
+        _ => Ok(false),
+    }
+}
+
+/// Whether a change has a later patch set than this one, and the record doesn't say the body.
+fn is_late(state: &State, change: u32, set: u32, body: &Body) -> Result<bool, NoMemory>
+    ensures { IfOk result
+        (λ late. IsTrue late ↔ (IsReplaced (change_at state.now change) set × ¬ IsRecorded state.now body.now)) }
+{
+    if !is_replaced(state, change, set) {
+        return Ok(false);
+    }
+    let said = is_recorded(state, body)?;
+    Ok(!said)
+}
+
+/// Whether a change has a later patch set than this one.
+fn is_replaced(state: &State, change: u32, set: u32) -> bool
+    ensures { IsTrue result ↔ IsReplaced (change_at state.now change) set }
+{
+    match state.change(change) {
+        None => is_before(&ChangeState::new(state.allocator()), set),
+        Some(found) => is_before(found, set),
+    }
+}
+
+/// Whether a patch set is before the current one of its change.
+fn is_before(change: &ChangeState, set: u32) -> bool
+    ensures { IsTrue result ↔ IsReplaced change.now set }
+{
+    match change.current() {
+        None => false,
+        Some(current) => set < current,
     }
 }
 

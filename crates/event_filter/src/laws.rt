@@ -1,6 +1,6 @@
 //! What follows of what a record holds, as functions that do nothing: their contracts are the laws.
 
-ghost use Rattle.std.specs.Prelude.{◌≡◌, ◌≤◌, ℕ, List, false, length};
+ghost use Rattle.std.specs.Prelude.{◌≡◌, ◌≤◌, ◌++◌, ℕ, List, false, length};
 ghost use Rattle.event_filter.specs.Recorded.{change_at, IsRecorded, LookAlike};
 ghost use Rattle.event_filter.specs.Newest.{IsNewest, IsOpenTo};
 ghost use Rattle.event_filter.specs.Truth.{AgreesWithAll, AreMet, AreNothingNew};
@@ -30,9 +30,10 @@ pub fn what_is_taken_in_is_recorded()
 {}
 
 /// A law: once what was found in a line is met, one finding after the other, and what each brings is taken in under
-/// stamps above those before, the record says what the line says: each body of it is recorded, and on each patch set
-/// that it lists who isn't listed has no score; where two findings speak of the same, the last one counts. What can't
-/// be said of a change that the record has as merged is that it is open or abandoned.
+/// stamps above those before, the record says what the line says: each body of it is recorded, a patch set that it
+/// shows is nothing new, and on each patch set that it lists who isn't listed has no score; where two findings speak of
+/// the same, the last one counts. What can't be said of a change that the record has as merged is that it is open or
+/// abandoned.
 pub fn what_is_met_is_what_the_record_says()
     ensures { (state new : State) → (findings : List Finding) → AreMet state findings new
         → AgreesWithAll findings new }
@@ -47,12 +48,14 @@ pub fn what_is_nothing_new_brings_nothing()
 /// A law: a row of an answer is the truth on its change. Once it was read, and what was found in it is met, one finding
 /// after the other, under stamps above those before, the record says of the change what the row says, in the terms of
 /// Gerrit's JSON: the commit of the current patch set, the status (a merged change stays merged), each approval of the
-/// current patch set, and that nobody else has a score on it.
+/// current patch set, and that nobody else has a score on it. Whatever is met before all of it, as by `against_first`,
+/// changes nothing of that.
 pub fn what_a_row_says_is_what_the_record_says()
     ensures { (known after : List Revision) → (choice : Choice) → (text : List ℕ) → (told : Told)
         → Reads known choice text told after → (members : Members) → IsLineObject text members
         → (change set : ℕ) → IsFedRow choice (object members) change set
-        → (state new : State) → AreMet state told.findings new → SaysRow known (object members) change set new }
+        → (before : List Finding) → (state new : State) → AreMet state (before ++ told.findings) new
+        → SaysRow known (object members) change set new }
 {}
 
 /// A law: what is kept of a message names no change but those that the message names, whatever the bases; and all of

@@ -18,12 +18,14 @@
 //! ```
 #![tactic(auto)]
 
+mod against;
 mod asking;
 mod bringing;
 mod laws;
 mod recorded;
 mod vanishing;
 
+pub use against::against_first;
 pub use asking::asked;
 pub use bringing::{brought, is_moot};
 pub use laws::{

@@ -9,6 +9,7 @@ use Rattle.event_feed.specs.Feed.{Feeds, gerrit_line_limit}
 use Rattle.event_feed.specs.declared.fault.FeedFault.{FeedFault}
 use Rattle.event_feed.specs.declared.fault.FeedFault.TheVariants.{WriteFault, NoMemory}
 use Rattle.event_feed.specs.declared.progress.Input.{Input}
+use Rattle.event_filter.specs.Against.{against_first}
 use Rattle.event_filter.specs.Asking.{AsksFor}
 use Rattle.gerrit_events.specs.Projects.{Choice}
 use Rattle.gerrit_events.specs.Reading.{Told}
@@ -54,14 +55,15 @@ LearnsNews answers old new (Err fault) =
     × (new.place.errors ≡ old.place.errors) × (new.output ≡ old.output) × (new.bases ≡ old.bases)
 
 module _ {Site : Type 0} (replies : Site → Deed → Result Timestamp IntakeFault → Site → Type 0) where
-  -- these changes are asked for, and what was found is met; nothing is met where asking is cut short
+  -- these changes are asked for, and what was found is met, votes below 0 first; nothing is met where asking is cut
+  -- short
   abbrev pub AsksAndMeets : ℕ → BTreeSet ℕ → Told → Seen Site → Seen Site → Result (Unit {0}) FeedFault → Type 0
   AsksAndMeets number asks told old new result =
       (IsWritten (ask_lines asks.keys) old.output new.output
-      × InTurn (Meets replies number) told.findings old.place new.place result)
+      × InTurn (Meets replies number) (against_first told.findings) old.place new.place result)
       ⊎ (FeedIsCutShort (ask_lines asks.keys) old.output new.output × (result ≡ Err WriteFault) × (new.place ≡ old.place))
 
-  -- what the line of this number says is taken up; nothing is done where memory is refused for what to ask
+  -- what the line of this number says is taken up; nothing is done where memory is refused for what to ask or to meet
   abbrev pub TakesLine : ℕ → Told → Seen Site → Seen Site → Result (Unit {0}) FeedFault → Type 0
   TakesLine number told old new result =
       (((asks : BTreeSet ℕ) × AreAsked old.bases old.place.state told asks × AsksAndMeets number asks told old new result)

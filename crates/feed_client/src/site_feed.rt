@@ -9,7 +9,7 @@ use super::meet::meet_all;
 use super::pull::pull_all;
 use byte_ends::{Drain, Source};
 use event_feed::{FeedFault, Input, Taker, feed_lines, send};
-use event_filter::asked;
+use event_filter::{against_first, asked};
 use footer_text::Bases;
 use gerrit_events::{Projects, Told};
 use lattice_core::NoMemory;
@@ -60,11 +60,14 @@ impl<T: Intake, O: Drain, E: Drain> Taker for SiteFeed<T, O, E> {
         let Ok(text) = ask_lines(self.alloc, &asked) else {
             return Err(FeedFault::NoMemory);
         };
+        let Ok(findings) = against_first(self.alloc, told.findings) else {
+            return Err(FeedFault::NoMemory);
+        };
         match send(&mut self.output, text.as_str()) {
             Ok(()) => meet_all(
                 self.alloc,
                 number,
-                told.findings,
+                findings,
                 &mut self.site,
                 &mut self.state,
                 &mut self.errors,
@@ -74,8 +77,8 @@ impl<T: Intake, O: Drain, E: Drain> Taker for SiteFeed<T, O, E> {
     }
 }
 
-/// Reads the lines of a source, as `event_feed::feed_lines` does, and offers what each brings to a site, in order, but
-/// for what the state says already. What the site takes in is taken into the state, too, and so is, before more of the
+/// Reads the lines of a source, as `event_feed::feed_lines` does, and offers what each brings to a site, votes below 0
+/// first and then in order, but for what the state says already. What the site takes in is taken into the state, too, and so is, before more of the
 /// source is read, what others brought to the site. Which changes a line makes the feed ask for is written to the
 /// output before what it brings is offered, as `ask N` lines, in the order of their numbers. What is refused of the
 /// line of number n, counted from 1, is reported on the errors: by the line itself (`reviewgate: events 1 BadEvent n

@@ -3,7 +3,7 @@
 use super::asserts::assert_found;
 use deeds::{Deed, draft_of, op_of};
 use event_filter::{
-    asked, brought, is_moot, vanished, what_a_row_says_is_what_the_record_says,
+    against_first, asked, brought, is_moot, vanished, what_a_row_says_is_what_the_record_says,
     what_is_met_is_what_the_record_says, what_is_nothing_new_brings_nothing,
 };
 use footer_text::Bases;
@@ -14,6 +14,7 @@ use state_core::State;
 use std::alloc::Global;
 use std::collections::BTreeSet;
 use std::process::Abort;
+use std::slice;
 
 /// Takes the operation of a deed on a change, where memory suffices for it.
 fn take(alloc: Global, state: &mut State, time: u64, change: u32, deed: Deed) -> Option<()> {
@@ -301,6 +302,13 @@ const FAMILY: &[(u32, Deed)] = &[
     (11, Deed::Merged),
 ];
 
+/// A change with a vote on a patch set that was replaced.
+const REPLACED: &[(u32, Deed)] = &[
+    FIRST,
+    (7, Deed::Vote(1, "l", "ann", 1)),
+    (7, Deed::PatchSet(2, "m", Some(5))),
+];
+
 /// A record, what a line is, what is found in it, and what is asked for.
 type Question = (
     &'static [(u32, Deed)],
@@ -396,6 +404,36 @@ const QUESTIONS: &[Question] = &[
         &[],
     ),
     (&[], Part::Row(Some(7)), &[Found::Refuses, OPEN], &[]),
+    (
+        REPLACED,
+        Part::Event(Some(7)),
+        &[Found::Brings(7, Deed::Vote(1, "l", "bob", -2))],
+        &[7],
+    ),
+    (
+        REPLACED,
+        Part::Event(Some(7)),
+        &[Found::Brings(7, Deed::Withdraw(1, "l", "ann"))],
+        &[7],
+    ),
+    (
+        REPLACED,
+        Part::Event(Some(7)),
+        &[Found::Brings(7, Deed::Vote(1, "l", "ann", 1))],
+        &[],
+    ),
+    (
+        REPLACED,
+        Part::Event(Some(7)),
+        &[Found::Brings(7, Deed::Vote(2, "l", "bob", -2))],
+        &[],
+    ),
+    (
+        REPLACED,
+        Part::Row(Some(7)),
+        &[Found::Brings(7, Deed::Vote(1, "l", "bob", -2)), OPEN],
+        &[],
+    ),
     (&[], Part::Stats { more: false }, &[Found::Refuses], &[]),
 ];
 
@@ -407,6 +445,62 @@ fn what_is_unknown_is_asked_for(rt: HostRuntime) {
         assert_found(&rt, (number, asks.as_deref()), (number, Some(wanted)));
     }
 }
+
+/// The bodies of findings that bring one, each on a line.
+fn bodies_in(alloc: Global, findings: &[Finding]) -> Option<String> {
+    let mut text = String::new(alloc);
+    for finding in findings {
+        if let Finding::Brings(body) = finding {
+            push_bodies(alloc, &mut text, slice::from_ref(body))?;
+        }
+    }
+    Some(text)
+}
+
+/// The bodies of what was found, in the order in which a record meets them, and how many findings there are.
+fn met_of(alloc: Global, found: &[Found]) -> Option<(String, usize)> {
+    let met = against_first(alloc, findings_of(alloc, found)?).ok()?;
+    Some((bodies_in(alloc, met.as_slice())?, met.len()))
+}
+
+#[test]
+fn votes_below_0_are_met_first(rt: HostRuntime) {
+    let met = met_of(
+        rt.alloc(),
+        &[
+            Found::Brings(7, COMMIT),
+            Found::Lists(7, 1, &[("l", "ann"), ("l", "bob")]),
+            Found::Brings(7, Deed::Vote(1, "l", "ann", 1)),
+            Found::Brings(7, Deed::Vote(1, "l", "bob", -2)),
+            Found::Brings(7, Deed::Withdraw(1, "l", "eve")),
+            Found::Refuses,
+        ],
+    );
+    let found = met.as_ref().map(|met| (met.0.as_str(), met.1));
+    let wanted = text_of_lines(
+        rt.alloc(),
+        &[VETO_TEXT, FIRST_TEXT, VOTE_TEXT, VETO_TEXT, GONE_TEXT],
+    );
+    assert_found(&rt, found, wanted.as_ref().map(|text| (text.as_str(), 7)));
+}
+
+/// Lines, one after the other.
+fn text_of_lines(alloc: Global, lines: &[&str]) -> Option<String> {
+    let mut text = String::new(alloc);
+    for line in lines {
+        text.push_str(line).ok()?;
+    }
+    Some(text)
+}
+
+const VOTE_TEXT: &str =
+    "{\"change\":7,\"label\":\"l\",\"op\":\"vote\",\"set\":1,\"value\":1,\"voter\":\"ann\"}\n";
+
+const GONE_TEXT: &str =
+    "{\"change\":7,\"label\":\"l\",\"op\":\"withdraw\",\"set\":1,\"voter\":\"eve\"}\n";
+
+const VETO_TEXT: &str =
+    "{\"change\":7,\"label\":\"l\",\"op\":\"vote\",\"set\":1,\"value\":-2,\"voter\":\"bob\"}\n";
 
 /// The numbers as a set.
 fn set_of(alloc: Global, listed: &[u32]) -> Option<BTreeSet<u32>> {
