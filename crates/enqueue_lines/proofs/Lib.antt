@@ -4,6 +4,7 @@ mod Once
 mod Numbers
 mod Begins
 mod Braces
+mod Readings
 mod Rows
 mod Adding
 mod Stream

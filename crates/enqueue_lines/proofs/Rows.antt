@@ -1,19 +1,20 @@
 -- How the rows of an answer add up.
 use Rattle.std.proofs.Common.{◌≡◌, ◌∙◌, ◌<◌, ◌+◌, ◌-◌, ◌++◌, ◌∷◌, [], ℕ, List, Option, None, Some, true, take, drop, length, refl, sym}
-use Rattle.std.proofs.Common.{ap, subst, arith, suc, zero, All}
+use Rattle.std.proofs.Common.{ap, subst, arith, suc, zero}
 use Rattle.std.specs.Prelude.{slice_get}
 use Rattle.std.specs.List.{AllZip}
 use Rattle.std.specs.Option.{option_or}
 use Rattle.std.specs.BTreeMap.{BTreeMap}
 use Rattle.std.proofs.lemmas.List.Elements.{All-push}
-use Rattle.gerrit_events.specs.Rows.{Place, Tells}
+use Rattle.gerrit_events.specs.Rows.{Tells}
+use Rattle.state_core.specs.declared.item.Item.{Item}
 use Rattle.gerrit_events.specs.declared.row.ChangePlace.{ChangePlace}
 use Rattle.gerrit_events.specs.declared.row.QueryLine.{QueryLine}
 use Rattle.enqueue_lines.specs.Handed.{IsItemLine, IsNoItem, IsRefusedHanded}
 use Rattle.enqueue_lines.specs.declared.fault.EnqueueFault.{EnqueueFault}
 use Rattle.enqueue_lines.specs.declared.fault.EnqueueFault.TheVariants.{BadLine, BadEnd, NoEnd, ReadFault, NoMemory}
 use Rattle.enqueue_lines.specs.declared.fault.EnqueueFault.TheVariants.{WriteFault, BadQuery, BadHanded}
-use Rattle.enqueue_lines.specs.Places.{AddsLine, ArePlacesOfRows, IsTold, last_place, place_by, known_place}
+use Rattle.enqueue_lines.specs.Places.{AddsLine, ArePlacesOfRows, IsTold, last_place, place_by}
 
 -- ---- the next of a list's elements
 
@@ -70,16 +71,23 @@ places_more before line old new are adds = record {
 
 -- ---- items that were handed over
 
-pub handed_refused : (all : List (List ℕ)) (n number : ℕ) (line : List ℕ) (fault : EnqueueFault) → number ≡ suc n
-    → slice_get all n ≡ Some line → IsNoItem number line fault → IsRefusedHanded all fault
-handed_refused all n number line (BadHanded told) up there none =
+pub handed_refused : (all : List (List ℕ)) (n number : ℕ) (line : List ℕ) (items : List Item) (fault : EnqueueFault)
+    → number ≡ suc n → slice_get all n ≡ Some line → AllZip IsItemLine (take n all) items → IsNoItem number line fault
+    → IsRefusedHanded all fault
+handed_refused all n number line items (BadHanded told) up there before none =
     let place : told - 1 ≡ n = omega (arith, up, none.0) in
-    let some : 0 < told = omega (arith, up, none.0) in
-    (line, some, subst (λ k. slice_get all k ≡ Some line) (sym place) there, (refl, none.1))
-handed_refused all n number line (BadLine told) up there none = none
-handed_refused all n number line (BadEnd told) up there none = none
-handed_refused all n number line NoEnd up there none = none
-handed_refused all n number line ReadFault up there none = none
-handed_refused all n number line NoMemory up there none = none
-handed_refused all n number line WriteFault up there none = none
-handed_refused all n number line (BadQuery told) up there none = none
+    let some : 0 < told = omega (arith, up, none.0) in (
+      line,
+      some,
+      subst (λ k. slice_get all k ≡ Some line) (sym place) there,
+      (refl, none.1),
+      items,
+      subst (λ k. AllZip IsItemLine (take k all) items) (sym place) before,
+    )
+handed_refused all n number line items (BadLine told) up there before none = none
+handed_refused all n number line items (BadEnd told) up there before none = none
+handed_refused all n number line items NoEnd up there before none = none
+handed_refused all n number line items ReadFault up there before none = none
+handed_refused all n number line items NoMemory up there before none = none
+handed_refused all n number line items WriteFault up there before none = none
+handed_refused all n number line items (BadQuery told) up there before none = none

@@ -1,20 +1,24 @@
 -- What the lines say that came of a source, one after the other.
-use Rattle.std.proofs.Common.{◌≡◌, ◌∙◌, ◌<◌, ◌++◌, ◌∷◌, [], ℕ, List, Option, None, Some, Result, Ok, Err, IfOk, refl, sym, ap, subst}
-use Rattle.std.proofs.Common.{append_assoc, append-nil, arith, flat_map, Bool, true, inl, inr}
+use Rattle.std.proofs.Common.{◌≡◌, ◌∙◌, ◌≤◌, ◌+◌, ◌++◌, ◌∷◌, [], ℕ, List, Option, None, Some, Result, Ok, Err, IfOk}
+use Rattle.std.proofs.Common.{IfErr, refl, sym, ap, subst, length, append_assoc, append-nil, length-append, arith, flat_map}
+use Rattle.std.proofs.Common.{Bool, true, inl, inr}
 use Rattle.std.specs.Prelude.{◌⊎◌}
 use Rattle.std.specs.List.{AllZip}
 use Rattle.std.proofs.lemmas.List.Concat.{flat_map-append}
 use Rattle.std.proofs.lemmas.List.Elements.{All-push}
 use Rattle.byte_ends.specs.Lines.{as_line, without_cr}
 use Rattle.line_reader.specs.Lines.{BeginsWithLine, Hands, Reading}
+use Rattle.enqueue_lines.specs.Ending.{BeginsBadly, BreaksGroup, CountsStep, LacksLine, SaysNext, TakesLine, next_number}
 use Rattle.enqueue_lines.specs.Groups.{GroupTold, added_by, listed_by, removed_by, told_by}
-use Rattle.enqueue_lines.specs.Lines.{LineSays}
-use Rattle.enqueue_lines.specs.Running.{GroupComes, IsNoEnd, IsSaidAs, SaysLines, SaysPiece, StepsOn, line_says}
+use Rattle.enqueue_lines.specs.Lines.{LineSays, NumbersFit}
+use Rattle.enqueue_lines.specs.Running.{GroupComes, IsNoEnd, IsSaidAs, KeepsSaid, SaysLines, SaysPiece, StepsOn, counted_on}
+use Rattle.enqueue_lines.specs.Running.{most_lines}
 use Rattle.enqueue_lines.specs.declared.fault.EnqueueFault.{EnqueueFault}
+use Rattle.enqueue_lines.specs.declared.fault.EnqueueFault.TheVariants.{BadLine, NoMemory, ReadFault}
 use Rattle.enqueue_lines.specs.declared.run.Step.{Step}
 use Rattle.enqueue_lines.specs.declared.run.Step.TheVariants.{GoesOn, EndsWith, Stops}
 use Rattle.enqueue_lines.specs.declared.said.Said.{Said}
-use Rattle.enqueue_lines.specs.declared.said.Said.TheVariants.{End}
+use Rattle.enqueue_lines.specs.declared.said.Said.TheVariants.{Ready, NowReady, NotReady, End, Nothing}
 
 -- ---- bytes that say lines
 
@@ -49,13 +53,35 @@ says_more first came more held rest lines others one two = record {
   each = zip_append SaysPiece one.pieces two.pieces lines others one.each two.each;
 }
 
-pub line_said : (bytes rest line : List ℕ) (limit : ℕ) (result : Result (Option Said) EnqueueFault)
-    → (piece : List ℕ) × BeginsWithLine limit bytes piece rest × (line ≡ without_cr piece)
-    → IfOk result (IsSaidAs line) → IfOk result (λ read. SaysLines bytes rest (line_says read))
-line_said bytes rest line limit (Ok None) begins said = absurd said
-line_said bytes rest line limit (Ok (Some said)) begins says =
-    one_said bytes begins.0 rest said begins.1.whole (subst (λ l. LineSays l said) begins.2 says)
-line_said bytes rest line limit (Err fault) begins said = tt
+-- more bytes after the rest
+pub says_on : (bytes rest more : List ℕ) (lines : List Said) → SaysLines bytes rest lines
+    → SaysLines (bytes ++ more) (rest ++ more) lines
+says_on bytes rest more lines says = record {
+  pieces = says.pieces;
+  whole = ap (λ l. l ++ more) says.whole ∙ append_assoc (flat_map as_line says.pieces) rest more;
+  each = says.each;
+}
+
+none_before : (first rest : List ℕ) → [] ≡ first ++ rest → (first ≡ []) × (rest ≡ [])
+none_before [] rest e = (refl, sym e)
+none_before (b ∷ first) rest e = cc
+
+no_pieces : (rest : List ℕ) (pieces : List (List ℕ)) (lines : List Said) → AllZip SaysPiece pieces lines
+    → [] ≡ flat_map as_line pieces ++ rest → (lines ≡ []) × (rest ≡ [])
+no_pieces rest [] [] each e = (refl, sym e)
+no_pieces rest [] (line ∷ lines) each e = absurd each
+no_pieces rest (piece ∷ pieces) lines each e =
+    let none = none_before (as_line piece ++ flat_map as_line pieces) rest e in
+    let first = none_before (as_line piece) (flat_map as_line pieces) (sym none.0) in
+    let last = none_before piece (10 ∷ []) (sym first.0) in
+    let byte : List ℕ = 10 ∷ [] in
+    let bad : byte ≡ [] = last.1 in
+    cc
+
+-- no bytes say no lines
+pub nothing_says : (bytes rest : List ℕ) (lines : List Said) → bytes ≡ [] → SaysLines bytes rest lines
+    → (lines ≡ []) × (rest ≡ [])
+nothing_says bytes rest lines none says = no_pieces rest says.pieces lines says.each (sym none ∙ says.whole)
 
 -- ---- what is kept of a group
 
@@ -77,50 +103,49 @@ told_more xs ys zs same =
 
 -- ---- the lines of a group, so far
 
-pub group_begins : (held : List ℕ) (kept : List Said) (count : ℕ) → kept ≡ []
-    → GroupComes (held ++ []) held kept count None
-group_begins held kept count none = record {
-  lines = [];
-  out = 0;
-  whole = λ k d within. absurd (omega (arith, within));
-  says = nothing_said held;
-  kept_is = ap told_by none;
-  begun = λ _. refl;
-}
-
--- a step that isn't the source's end was counted
-pub counted : (step : Step) (now : ℕ) → (step ≡ Stops) ⊎ (0 < now) → ¬ (step ≡ Stops) → 0 < now
-counted step now (inl stops) on = absurd (on stops)
-counted step now (inr some) on = some
-
-pub goes_not : (step : Step) → step ≡ GoesOn → ¬ (step ≡ Stops)
-goes_not step is stops = let bad : GoesOn ≡ Stops = sym is ∙ stops in cc
-
-pub ends_not : (step : Step) (ready : ℕ) → step ≡ EndsWith ready → ¬ (step ≡ Stops)
-ends_not step ready is stops = let bad : EndsWith ready ≡ Stops = sym is ∙ stops in cc
+pub group_begins : (held : List ℕ) (kept : List Said) (count : ℕ) → kept ≡ [] → count ≡ 0
+    → (group : GroupComes (held ++ []) held kept count None) × (length group.lines ≡ 0)
+group_begins held kept count none nought = (
+  record {
+    lines = [];
+    out = 0;
+    whole = λ k d within. absurd (omega (arith, within));
+    says = nothing_said held;
+    kept_is = ap told_by none;
+    counted = nought;
+  },
+  refl,
+)
 
 module _ (first came more held rest : List ℕ) (old new : List Said) (count now : ℕ)
     (comes : GroupComes (first ++ came) held old count None) where
-  going : StepsOn (held ++ more) rest old new GoesOn → 0 < now → GroupComes (first ++ (came ++ more)) rest new now None
-  going steps some = record {
-    lines = comes.lines ++ steps.0 ∷ [];
-    out = 0;
-    whole = All-push IsNoEnd comes.lines steps.0 comes.whole steps.2;
-    says = says_more first came more held rest comes.lines (steps.0 ∷ []) comes.says steps.1;
-    kept_is = steps.3 ∙ told_more old comes.lines (steps.0 ∷ []) comes.kept_is;
-    begun = λ none. absurd (omega (arith, some, none));
-  }
+  going : StepsOn (held ++ more) rest old new GoesOn → now ≡ next_number count
+      → (group : GroupComes (first ++ (came ++ more)) rest new now None) × (length group.lines ≡ length comes.lines + 1)
+  going steps counts =
+      let length_is = length-append comes.lines (steps.0 ∷ []) in (
+        record {
+          lines = comes.lines ++ steps.0 ∷ [];
+          out = 0;
+          whole = All-push IsNoEnd comes.lines steps.0 comes.whole steps.2;
+          says = says_more first came more held rest comes.lines (steps.0 ∷ []) comes.says steps.1;
+          kept_is = steps.3 ∙ told_more old comes.lines (steps.0 ∷ []) comes.kept_is;
+          counted = omega (arith, comes.counted, counts, length_is);
+        },
+        omega (arith, length_is),
+      )
 
-  ending : (ready : ℕ) → StepsOn (held ++ more) rest old new (EndsWith ready) → 0 < now
+  ending : (ready : ℕ) → StepsOn (held ++ more) rest old new (EndsWith ready) → now ≡ next_number count
       → GroupComes (first ++ (came ++ more)) rest new now (Some ready)
-  ending ready steps some = record {
-    lines = comes.lines;
-    out = steps.0;
-    whole = comes.whole;
-    says = says_more first came more held rest comes.lines (End ready steps.0 ∷ []) comes.says steps.1;
-    kept_is = ap told_by steps.2 ∙ comes.kept_is;
-    begun = λ none. absurd (omega (arith, some, none));
-  }
+  ending ready steps counts =
+      let length_is = length-append comes.lines (End ready steps.0 ∷ []) in
+      record {
+        lines = comes.lines;
+        out = steps.0;
+        whole = comes.whole;
+        says = says_more first came more held rest comes.lines (End ready steps.0 ∷ []) comes.says steps.1;
+        kept_is = ap told_by steps.2 ∙ comes.kept_is;
+        counted = omega (arith, comes.counted, counts, length_is);
+      }
 
   stopping : StepsOn (held ++ more) rest old new Stops → now ≡ count
       → GroupComes (first ++ (came ++ more)) rest new now None
@@ -131,25 +156,113 @@ module _ (first came more held rest : List ℕ) (old new : List Said) (count now
     says = subst (SaysLines (first ++ (came ++ more)) rest) (append-nil comes.lines)
         (says_more first came more held rest comes.lines [] comes.says steps.0);
     kept_is = ap told_by steps.1 ∙ comes.kept_is;
-    begun = λ none. comes.begun (sym same ∙ none);
+    counted = same ∙ comes.counted;
   }
 
-  pub group_goes : (step : Step) → step ≡ GoesOn → StepsOn (held ++ more) rest old new step
-      → (step ≡ Stops) ⊎ (0 < now) → GroupComes (first ++ (came ++ more)) rest new now None
+  pub group_goes : (step : Step) → step ≡ GoesOn → StepsOn (held ++ more) rest old new step → CountsStep count now step
+      → (group : GroupComes (first ++ (came ++ more)) rest new now None) × (length group.lines ≡ length comes.lines + 1)
   group_goes step is steps counts =
-      going (subst (StepsOn (held ++ more) rest old new) is steps) (counted step now counts (goes_not step is))
+      going (subst (StepsOn (held ++ more) rest old new) is steps) (subst (CountsStep count now) is counts)
 
   pub group_ends : (step : Step) (ready : ℕ) → step ≡ EndsWith ready → StepsOn (held ++ more) rest old new step
-      → (step ≡ Stops) ⊎ (0 < now) → GroupComes (first ++ (came ++ more)) rest new now (Some ready)
+      → CountsStep count now step → GroupComes (first ++ (came ++ more)) rest new now (Some ready)
   group_ends step ready is steps counts =
-      ending ready (subst (StepsOn (held ++ more) rest old new) is steps) (counted step now counts (ends_not step ready is))
+      ending ready (subst (StepsOn (held ++ more) rest old new) is steps) (subst (CountsStep count now) is counts)
 
-  pub group_stops : (step : Step) → step ≡ Stops → StepsOn (held ++ more) rest old new step → now ≡ count
+  pub group_stops : (step : Step) → step ≡ Stops → StepsOn (held ++ more) rest old new step → CountsStep count now step
       → GroupComes (first ++ (came ++ more)) rest new now None
-  group_stops step is steps same = stopping (subst (StepsOn (held ++ more) rest old new) is steps) same
+  group_stops step is steps counts =
+      stopping (subst (StepsOn (held ++ more) rest old new) is steps) (subst (CountsStep count now) is counts)
+
+  -- the next line isn't had
+  pub group_breaks : (limit before number unread reads : ℕ) (fault : EnqueueFault)
+      → number ≡ next_number (counted_on before count) → LacksLine limit (held ++ more) number unread reads fault
+      → BreaksGroup limit (first ++ (came ++ more)) before unread reads fault
+  group_breaks limit before number unread reads fault numbered lacks =
+      let same : number ≡ next_number (before + length comes.lines) = omega (arith, numbered, comes.counted) in
+      record {
+        lines = comes.lines;
+        after = held ++ more;
+        whole = comes.whole;
+        says = subst (λ l. SaysLines l (held ++ more) comes.lines) (append_assoc first came more)
+            (says_on (first ++ came) held more comes.lines comes.says);
+        cause = inl (subst (λ n. LacksLine limit (held ++ more) n unread reads fault) same lacks);
+      }
+
+-- too many lines came
+pub group_is_endless : (limit : ℕ) (bytes rest : List ℕ) (kept : List Said) (count before unread reads : ℕ)
+    (comes : GroupComes bytes rest kept count None) → most_lines ≤ length comes.lines → reads ≡ unread
+    → BreaksGroup limit bytes before unread reads ReadFault
+group_is_endless limit bytes rest kept count before unread reads comes many same = record {
+  lines = comes.lines;
+  after = rest;
+  whole = comes.whole;
+  says = comes.says;
+  cause = inr (refl, omega (arith, many), same);
+}
 
 -- ---- the line that a reader hands out
 
 pub line_handed : (old new : Reading) (came : List ℕ) (there : Bool) → there ≡ true → Hands old came (Ok there) new
     → (piece : List ℕ) × BeginsWithLine old.limit (old.held ++ came) piece new.held × (new.line ≡ without_cr piece)
 line_handed old new came there is hands = subst (λ (b : Bool). Hands old came (Ok b) new) is hands
+
+-- what such a line says
+pub line_next : (bytes rest line : List ℕ) (limit number unread reads : ℕ) (result : Result (Option Said) EnqueueFault)
+    → (piece : List ℕ) × BeginsWithLine limit bytes piece rest × (line ≡ without_cr piece)
+    → IfOk result (IsSaidAs line)
+    → IfErr result (λ fault. ((fault ≡ BadLine number) × ((said : Said) → NumbersFit said → ¬ LineSays line said))
+    ⊎ (fault ≡ NoMemory))
+    → reads ≡ unread → SaysNext limit bytes rest number unread reads result
+line_next bytes rest line limit number unread reads (Ok None) begins said refused same = absurd said
+line_next bytes rest line limit number unread reads (Ok (Some said)) begins says refused same =
+    (one_said bytes begins.0 rest said begins.1.whole (subst (λ l. LineSays l said) begins.2 says), same)
+line_next bytes rest line limit number unread reads (Err fault) begins says refused same = elim refused [
+  | inl none ↦
+      let bad : BeginsBadly limit bytes =
+      inl (begins.0, rest, begins.1, λ said fit is. none.1 said fit (subst (λ l. LineSays l said) (sym begins.2) is)) in
+      subst (LacksLine limit bytes number unread reads) (sym none.0) (refl, bad, same)
+  | inr memory ↦ subst (LacksLine limit bytes number unread reads) (sym memory) same
+]
+
+-- ---- what a line does to the lines that are kept
+
+pub line_taken : (limit : ℕ) (bytes rest : List ℕ) (old new : List Said) (number unread reads : ℕ) (said : Said)
+    (result : Result Step EnqueueFault) → SaysLines bytes rest (said ∷ []) → reads ≡ unread
+    → IfOk result (KeepsSaid said old new) → IfErr result (λ fault. fault ≡ NoMemory)
+    → TakesLine limit bytes rest old new number unread reads result
+line_taken limit bytes rest old new number unread reads (End ready out) (Ok step) says same keeps refused =
+    (subst (StepsOn bytes rest old new) (sym keeps.0) (out, says, keeps.1), same)
+line_taken limit bytes rest old new number unread reads (Ready item) (Ok step) says same keeps refused =
+    (subst (StepsOn bytes rest old new) (sym keeps.0) (Ready item, says, tt, keeps.1), same)
+line_taken limit bytes rest old new number unread reads (NowReady item) (Ok step) says same keeps refused =
+    (subst (StepsOn bytes rest old new) (sym keeps.0) (NowReady item, says, tt, keeps.1), same)
+line_taken limit bytes rest old new number unread reads (NotReady item) (Ok step) says same keeps refused =
+    (subst (StepsOn bytes rest old new) (sym keeps.0) (NotReady item, says, tt, keeps.1), same)
+line_taken limit bytes rest old new number unread reads Nothing (Ok step) says same keeps refused =
+    (subst (StepsOn bytes rest old new) (sym keeps.0) (Nothing, says, tt, keeps.1), same)
+line_taken limit bytes rest old new number unread reads said (Err fault) says same keeps refused =
+    subst (LacksLine limit bytes number unread reads) (sym refused) same
+
+-- and to how many came
+pub step_counted : (old new : ℕ) (said : Said) (kept now : List Said) (result : Result Step EnqueueFault)
+    → new ≡ next_number old → IfOk result (KeepsSaid said kept now) → IfOk result (CountsStep old new)
+step_counted old new (End ready out) kept now (Ok step) counts keeps = subst (CountsStep old new) (sym keeps.0) counts
+step_counted old new (Ready item) kept now (Ok step) counts keeps = subst (CountsStep old new) (sym keeps.0) counts
+step_counted old new (NowReady item) kept now (Ok step) counts keeps = subst (CountsStep old new) (sym keeps.0) counts
+step_counted old new (NotReady item) kept now (Ok step) counts keeps = subst (CountsStep old new) (sym keeps.0) counts
+step_counted old new Nothing kept now (Ok step) counts keeps = subst (CountsStep old new) (sym keeps.0) counts
+step_counted old new said kept now (Err fault) counts keeps = tt
+
+stops_not : (said : Said) (kept now : List Said) → ¬ KeepsSaid said kept now Stops
+stops_not (End ready out) kept now keeps = let bad = keeps.0 in cc
+stops_not (Ready item) kept now keeps = let bad = keeps.0 in cc
+stops_not (NowReady item) kept now keeps = let bad = keeps.0 in cc
+stops_not (NotReady item) kept now keeps = let bad = keeps.0 in cc
+stops_not Nothing kept now keeps = let bad = keeps.0 in cc
+
+-- a line that came doesn't end the source
+pub no_stop : (said : Said) (kept now : List Said) (result : Result Step EnqueueFault)
+    → IfOk result (KeepsSaid said kept now) → ¬ (result ≡ Ok Stops)
+no_stop said kept now result keeps is =
+    stops_not said kept now (subst (λ (r : Result Step EnqueueFault). IfOk r (KeepsSaid said kept now)) is keeps)

@@ -10,3 +10,4 @@ pub mod Places
 pub mod Handed
 pub mod Printing
 pub mod Running
+pub mod Ending

@@ -1,7 +1,7 @@
 -- Where changes are to be merged, by the answer to a query of Gerrit ("query", --format=JSON): the last row of a change
 -- counts.
-use Rattle.std.specs.Prelude.{◌≡◌, ◌==◌, ◌-◌, ◌<◌, ◌⊎◌, ℕ, List, [], ◌∷◌, Option, None, Some, option_map, if◌then◌else◌}
-use Rattle.std.specs.Prelude.{All, Bool, true, false, slice_get}
+use Rattle.std.specs.Prelude.{◌≡◌, ◌==◌, ◌-◌, ◌<◌, ℕ, List, [], ◌∷◌, Option, None, Some, option_map, if◌then◌else◌}
+use Rattle.std.specs.Prelude.{All, Bool, true, false, slice_get, take}
 use Rattle.std.specs.List.{AllZip}
 use Rattle.std.specs.Option.{option_or}
 use Rattle.std.specs.Ordering.{nat_cmp}
@@ -39,10 +39,12 @@ pub record ArePlacesOfRows (lines : List (List ℕ)) (places : BTreeMap ℕ Chan
   pub each : All IsTold rows
   pub placed : (change : ℕ) → known_place places change ≡ last_place rows change
 
--- the line of this number, from 1, says nothing; or memory was refused
+-- the line of this number, from 1, says nothing, and each line before it is a row, or ends an answer; or memory was
+-- refused
 abbrev pub IsRefusedQuery : List (List ℕ) → EnqueueFault → Type 0
 IsRefusedQuery lines (BadQuery number) =
     (line : List ℕ) × (0 < number) × (slice_get lines (number - 1) ≡ Some line) × Tells line Other
+    × (rows : List QueryLine) × AllZip Tells (take (number - 1) lines) rows × All IsTold rows
 IsRefusedQuery lines fault = fault ≡ NoMemory
 
 -- the line says something, and its place is added; or it says nothing

@@ -1,6 +1,6 @@
 -- What is handed over of lines as they come: the lines are those of whole groups, one after the other, and then some of
 -- the next group. A group is handed over once its end line has come.
-use Rattle.std.specs.Prelude.{◌≡◌, ℕ, Bool, true, false, List, [], ◌∷◌, ◌++◌, Option, None, Some, All, flat_map}
+use Rattle.std.specs.Prelude.{◌≡◌, ◌+◌, ◌-◌, ◌^◌, ℕ, List, [], ◌∷◌, ◌++◌, Option, None, Some, All, flat_map, length, min}
 use Rattle.std.specs.Io.KnownBytes.{Appends, Consumes, IsAtEnd}
 use Rattle.std.specs.List.{AllZip}
 use Rattle.byte_ends.specs.Lines.{as_line, without_cr}
@@ -89,21 +89,36 @@ pub record PrintsGroups (pipe : Pipe) (earlier : List Item) (bytes rest lines re
   pub lines_are : lines ≡ item_lines pipe (handed_by (starting earlier) groups)
   pub reports_are : reports ≡ report_lines pipe (handed_by (starting earlier) groups)
 
--- what is known of an input's rest, and of what both outputs took
+-- what both outputs took, where that is known, and how many writes of each failed
+pub record KnownOutputs : Type 0 where
+  pub printed : Option (List ℕ)
+  pub unprinted : ℕ
+  pub reported : Option (List ℕ)
+  pub unreported : ℕ
+
+-- what an input has left, where that is known, how many of its reads failed, and both outputs
 pub record KnownEnds : Type 0 where
   pub left : Option (List ℕ)
-  pub printed : Option (List ℕ)
-  pub reported : Option (List ℕ)
+  pub unread : ℕ
+  pub outputs : KnownOutputs
 
--- these bytes came in between, whose groups were handed over, and after which there is this rest
+-- these lines and these reports were written, and no write failed
+pub record WritesTexts (lines reports : List ℕ) (old new : KnownOutputs) : Type 0 where
+  pub printed : Appends old.printed new.printed lines
+  pub reported : Appends old.reported new.reported reports
+  pub none_unprinted : new.unprinted ≡ old.unprinted
+  pub none_unreported : new.unreported ≡ old.unreported
+
+-- these bytes came in between, whose groups were handed over, and after which there is this rest; no read and no write
+-- failed
 pub record HandsOver (pipe : Pipe) (earlier : List Item) (old new : KnownEnds) (rest : List ℕ) : Type 0 where
   pub came : List ℕ
   pub lines : List ℕ
   pub reports : List ℕ
   pub prints : PrintsGroups pipe earlier came rest lines reports
   pub consumed : Consumes old.left new.left came
-  pub printed : Appends old.printed new.printed lines
-  pub reported : Appends old.reported new.reported reports
+  pub none_unread : new.unread ≡ old.unread
+  pub written : WritesTexts lines reports old.outputs new.outputs
 
 -- ---- the parts of a step
 
@@ -136,31 +151,43 @@ abbrev pub with_end : List Said → Option ℕ → ℕ → List Said
 with_end lines None out = lines
 with_end lines (Some ready) out = lines ++ End ready out ∷ []
 
--- these lines came, of which those that say something are kept; none did where none were counted
+-- the greatest number of a line, at which counting stops
+abbrev pub most_lines : ℕ
+most_lines = 2 ^ 64 - 1
+
+-- so many lines more were counted
+abbrev pub counted_on : ℕ → ℕ → ℕ
+counted_on before more = min (before + more) most_lines
+
+-- these lines came, of which those that say something are kept, and so many were counted
 pub record GroupComes (bytes rest : List ℕ) (kept : List Said) (count : ℕ) (ended : Option ℕ) : Type 0 where
   pub lines : List Said
   pub out : ℕ
   pub whole : All IsNoEnd lines
   pub says : SaysLines bytes rest (with_end lines ended out)
   pub kept_is : told_by kept ≡ told_by lines
-  pub begun : count ≡ 0 → lines ≡ []
+  pub counted : count ≡ counted_on 0 (length (with_end lines ended out))
 
--- a group was handed over: these bytes say it, its end line fits, and what it makes ready was written
-pub record GroupIsHanded (pipe : Pipe) (bytes rest : List ℕ) (old new : ReadySoFar) (before after : KnownEnds) : Type 0 where
+-- what items are handed over with was written
+abbrev pub WritesItems : Pipe → List Item → KnownOutputs → KnownOutputs → Type 0
+WritesItems pipe items old new = WritesTexts (item_lines pipe items) (report_lines pipe items) old new
+
+-- a group was handed over: these bytes say it, its end line fits, what it makes ready was written, and its lines were
+-- counted
+pub record GroupIsHanded (pipe : Pipe) (bytes rest : List ℕ) (number numbered : ℕ) (old new : ReadySoFar)
+    (before after : KnownEnds) : Type 0 where
   pub group : LineGroup
   pub whole : All IsNoEnd group.lines
   pub says : SaysLines bytes rest (group_says group)
   pub fits : Fits old.ready (told_by group.lines) group.ready
   pub held : new ≡ ready_first (ready_then old.ready group)
-  pub printed : Appends before.printed after.printed (item_lines pipe (fresh old (ready_then old.ready group)))
-  pub reported : Appends before.reported after.reported (report_lines pipe (fresh old (ready_then old.ready group)))
+  pub written : WritesItems pipe (fresh old (ready_then old.ready group)) before.outputs after.outputs
+  pub none_unread : after.unread ≡ before.unread
+  pub numbered_is : numbered ≡ counted_on number (length (group_says group))
 
--- nothing was written
-abbrev pub IsQuiet : KnownEnds → KnownEnds → Type 0
-IsQuiet before after = (after.printed ≡ before.printed) × (after.reported ≡ before.reported)
-
--- the next group was handed over; or there is none, nor any line or part of one
-abbrev pub HandsGroup : Pipe → List ℕ → List ℕ → ReadySoFar → ReadySoFar → KnownEnds → KnownEnds → Bool → Type 0
-HandsGroup pipe bytes rest old new before after true = GroupIsHanded pipe bytes rest old new before after
-HandsGroup pipe bytes rest old new before after false =
-    SaysLines bytes [] [] × IsAtEnd after.left × IsQuiet before after
+-- there is no group any more, nor any line or part of one
+pub record NoGroupIsLeft (bytes : List ℕ) (before after : KnownEnds) : Type 0 where
+  pub says : SaysLines bytes [] []
+  pub end : IsAtEnd after.left
+  pub none_unread : after.unread ≡ before.unread
+  pub quiet : after.outputs ≡ before.outputs

@@ -1,6 +1,6 @@
 -- The template of a line: text as it is, and the names of fields in braces, for which values are put in. The form is
 -- the project's own.
-use Rattle.std.specs.Prelude.{◌≡◌, ◌⊎◌, ℕ, List, ◌++◌, codes, decimal, flat_map, string_bytes}
+use Rattle.std.specs.Prelude.{◌≡◌, ◌⊎◌, ℕ, List, [], ◌∷◌, ◌++◌, All, codes, decimal, flat_map, string_bytes}
 use Rattle.enqueue_lines.specs.Quoting.{quoted}
 use Rattle.enqueue_lines.specs.Texts.{LacksByte}
 use Rattle.enqueue_lines.specs.declared.fault.TemplateFault.{TemplateFault}
@@ -39,6 +39,23 @@ spelling (field named) = field_spelling named
 
 abbrev pub spells : List Part → List ℕ
 spells parts = flat_map spelling parts
+
+-- a text has no open brace in it, so that each brace begins a field
+abbrev pub IsPlainPart : Part → Type 0
+IsPlainPart (text plain) = LacksByte 123 plain
+IsPlainPart (field named) = Unit {0}
+
+-- these pieces are how a text is read: they spell it, and no text of theirs has an open brace
+pub record Reads (whole : List ℕ) (parts : List Part) : Type 0 where
+  pub spelled : whole ≡ spells parts
+  pub plain : All IsPlainPart parts
+
+-- pieces with one more text, and with a field after that
+abbrev pub with_text : List Part → List ℕ → List Part
+with_text parts plain = parts ++ text plain ∷ []
+
+abbrev pub with_field : List Part → List ℕ → Field → List Part
+with_field parts plain named = parts ++ (text plain ∷ field named ∷ [])
 
 -- ---- what is put in: each value as a word of a shell
 
@@ -86,8 +103,10 @@ IsWrongBrace after (UnknownField name) =
     × ((named : Field) → ¬ (name.now ≡ name_of named))
 IsWrongBrace after NoMemory = ⊥
 
--- the text begins with pieces, after which comes a brace that isn't right; or memory was refused
+-- the text begins with pieces, of which no text has an open brace, and after which comes the first brace that isn't
+-- right; or memory was refused
 abbrev pub IsRefusedTemplate : List ℕ → TemplateFault → Type 0
 IsRefusedTemplate whole fault =
-    ((parts : List Part) × (after : List ℕ) × (whole ≡ spells parts ++ codes "{" ++ after) × IsWrongBrace after fault)
+    ((parts : List Part) × (after : List ℕ) × (whole ≡ spells parts ++ codes "{" ++ after) × IsWrongBrace after fault
+    × All IsPlainPart parts)
     ⊎ (fault ≡ NoMemory)

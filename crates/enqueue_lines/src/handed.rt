@@ -13,7 +13,7 @@ use state_core::Item;
 use std::alloc::Global;
 
 /// The items that a text lists, as `101,2`, one a line; an item may be there more than once. Refusals: 10 `BadHanded`,
-/// the line of this number is no item; 5 `NoMemory`. It costs O(n log n) for n bytes.
+/// the line of this number is the first one that is no item; 5 `NoMemory`. It costs O(n log n) for n bytes.
 pub fn read_handed(alloc: Global, text: &[u8]) -> Result<ItemSet, EnqueueFault>
     ensures read { IfOk result (λ items. AllZip IsItemLine (lines_of text.now) items) }
     ensures refused { IfErr result (IsRefusedHanded (lines_of text.now)) }

@@ -51,4 +51,4 @@ pub use places::{Places, read_places};
 pub use quoting::{add_quoted, quoted_words_are_read_again};
 pub use run::hand_over;
 pub use said::{Said, read_item, read_line};
-pub use template::{Field, Piece, Template, Values};
+pub use template::{Field, Piece, Template, Values, templates_have_one_reading};

@@ -16,8 +16,8 @@ use std::collections::BTreeMap;
 pub type Places = BTreeMap<u32, ChangePlace>;
 
 /// The places that the answer to a query says, as Gerrit's `query --format=JSON` writes it: one JSON object a line. The
-/// last row of a change counts. Refusals: 9 `BadQuery`, the line of this number is neither a row with a number, a
-/// project and a branch, nor ends the answer; 5 `NoMemory`. It costs O(n log n) for n bytes.
+/// last row of a change counts. Refusals: 9 `BadQuery`, the line of this number is the first one that is neither a row
+/// with a number, a project and a branch, nor ends the answer; 5 `NoMemory`. It costs O(n log n) for n bytes.
 pub fn read_places(alloc: Global, text: &[u8]) -> Result<Places, EnqueueFault>
     ensures read { IfOk result (ArePlacesOfRows (lines_of text.now)) }
     ensures refused { IfErr result (IsRefusedQuery (lines_of text.now)) }

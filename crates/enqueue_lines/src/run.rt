@@ -1,12 +1,14 @@
 //! Hands over the items of lines as they come.
 
-ghost use Rattle.std.specs.Prelude.{◌≡◌, ◌⊎◌, ◌++◌, ◌<◌, ◌∷◌, ℕ, List, [], IfErr, IfOk, Ok, OnErr, OnOk, None};
-ghost use Rattle.std.specs.Prelude.{false, true};
-ghost use Rattle.std.specs.Io.KnownBytes.{Appends, Consumes, IsAtEnd};
+ghost use Rattle.std.specs.Prelude.{◌≡◌, ◌⊎◌, ◌++◌, ◌∷◌, ℕ, List, [], IfErr, IfOk, Ok, None, false};
+ghost use Rattle.std.specs.Io.KnownBytes.{Consumes, IsAtEnd};
+ghost use Rattle.line_reader.specs.Lines.{HasNoLf};
+ghost use Rattle.enqueue_lines.specs.Ending.{CountsStep, Gives, HandsAll, HandsGroup, ReadsGroup, SaysNext, SendsItems};
+ghost use Rattle.enqueue_lines.specs.Ending.{SendsLines, SendsTexts, TakesLine, next_number};
 ghost use Rattle.enqueue_lines.specs.Groups.{Fits, ReadySoFar, fresh, ready_first, ready_after, told_by};
 ghost use Rattle.enqueue_lines.specs.Lines.{NumbersFit, LineSays};
-ghost use Rattle.enqueue_lines.specs.Printing.{item_lines, pipe_shown, report_lines};
-ghost use Rattle.enqueue_lines.specs.Running.{GroupComes, HandsGroup, HandsOver, IsSaidAs, KeepsSaid, SaysLines, StepsOn, line_says};
+ghost use Rattle.enqueue_lines.specs.Printing.{pipe_shown};
+ghost use Rattle.enqueue_lines.specs.Running.{IsSaidAs, KeepsSaid};
 ghost use Rattle.enqueue_lines.specs.declared.said.Said.{Said};
 
 use super::fault::EnqueueFault;
@@ -46,8 +48,9 @@ enum Step {
 /// more is read. Ends well at the end of the source, after an end line. Refusals: 1 `BadLine`, the line of this number
 /// is none that a site prints; 2 `BadEnd`, the end line of this number doesn't fit the lines before it; 3 `NoEnd`, the
 /// source ended after another line, or within one; 4 `ReadFault`, the source failed; 5 `NoMemory`; 6 `WriteFault`, an
-/// output failed. All groups before were handed over, and nothing of the group that is refused, but after `WriteFault`.
-/// It costs O(n log n) for a group after which n items are ready, and O(n) for n bytes that are read or written.
+/// output failed. All groups before were handed over, and nothing of the group that is refused, but after `WriteFault`:
+/// then some of its lines, or all of them and some of its reports, were written. It costs O(n log n) for a group after
+/// which n items are ready, and O(n) for n bytes that are read or written.
 pub fn hand_over<S: Source, O: Drain, E: Drain>(
     alloc: Global,
     pipeline: &Pipeline<'_>,
@@ -56,15 +59,28 @@ pub fn hand_over<S: Source, O: Drain, E: Drain>(
     output: &mut O,
     errors: &mut E,
 ) -> Result<(), EnqueueFault>
-    ensures ok { OnOk result (HandsOver (pipe_shown pipeline.now) earlier
-        (record { left = S.left source.old; printed = O.taken output.old; reported = E.taken errors.old })
-        (record { left = S.left source.new; printed = O.taken output.new; reported = E.taken errors.new }) []
-        × IsAtEnd (S.left source.new)) }
-    // The groups before were handed over, and nothing else, unless an output failed.
-    ensures refused { IfErr result (λ fault. (fault ≡ EnqueueFault.WriteFault) ⊎ ((rest : List ℕ)
-        × HandsOver (pipe_shown pipeline.now) earlier
-        (record { left = S.left source.old; printed = O.taken output.old; reported = E.taken errors.old })
-        (record { left = S.left source.new; printed = O.taken output.new; reported = E.taken errors.new }) rest)) }
+    // All groups were handed over; or it is said of the first one that wasn't why, and what of it was written.
+    ensures { HandsAll (pipe_shown pipeline.now) earlier
+        (record {
+          left = S.left source.old;
+          unread = S.failed source.old;
+          outputs = record {
+            printed = O.taken output.old;
+            unprinted = O.failed output.old;
+            reported = E.taken errors.old;
+            unreported = E.failed errors.old;
+          };
+        })
+        (record {
+          left = S.left source.new;
+          unread = S.failed source.new;
+          outputs = record {
+            printed = O.taken output.new;
+            unprinted = O.failed output.new;
+            reported = E.taken errors.new;
+            unreported = E.failed errors.new;
+          };
+        }) result }
 {
     let Ok(mut reader) = LineReader::new(alloc, LINE_LIMIT) else {
         return Err(EnqueueFault::NoMemory);
@@ -101,13 +117,30 @@ fn hand_group<S: Source, O: Drain, E: Drain>(
     output: &mut O,
     errors: &mut E,
 ) -> Result<bool, EnqueueFault>
-    ensures ok { IfOk result (λ more. (came : List ℕ) × Consumes (S.left source.old) (S.left source.new) came
-        × HandsGroup (pipe_shown pipeline.now) (reader.old.held ++ came) reader.new.held handing.old handing.new
-        (record { left = S.left source.old; printed = O.taken output.old; reported = E.taken errors.old })
-        (record { left = S.left source.new; printed = O.taken output.new; reported = E.taken errors.new }) more) }
-    ensures refused { IfErr result (λ fault. (fault ≡ EnqueueFault.WriteFault)
-        ⊎ ((came : List ℕ) × Consumes (S.left source.old) (S.left source.new) came
-        × (O.taken output.new ≡ O.taken output.old) × (E.taken errors.new ≡ E.taken errors.old))) }
+    ensures hands { (came : List ℕ) × Consumes (S.left source.old) (S.left source.new) came
+        × HandsGroup (pipe_shown pipeline.now) reader.old.limit (reader.old.held ++ came) reader.new.held
+        number.old number.new handing.old handing.new
+        (record {
+          left = S.left source.old;
+          unread = S.failed source.old;
+          outputs = record {
+            printed = O.taken output.old;
+            unprinted = O.failed output.old;
+            reported = E.taken errors.old;
+            unreported = E.failed errors.old;
+          };
+        })
+        (record {
+          left = S.left source.new;
+          unread = S.failed source.new;
+          outputs = record {
+            printed = O.taken output.new;
+            unprinted = O.failed output.new;
+            reported = E.taken errors.new;
+            unreported = E.failed errors.new;
+          };
+        }) result }
+    ensures limit { reader.new.limit ≡ reader.old.limit }
 {
     let mut coming = Coming {
         lines: Vec::new(alloc),
@@ -128,7 +161,7 @@ fn hand_group<S: Source, O: Drain, E: Drain>(
 /// That there is no more group, where so many lines of one came, and this is held without a line end.
 fn end_of(count: u64, held: &[u8]) -> Result<bool, EnqueueFault>
     ensures ok { IfOk result (λ more. (more ≡ false) × (count ≡ 0) × (held.now ≡ [])) }
-    ensures refused { IfErr result (λ fault. fault ≡ EnqueueFault.NoEnd) }
+    ensures refused { IfErr result (λ fault. (fault ≡ EnqueueFault.NoEnd) × ((count ≡ 0) → (held.now ≡ []) → ⊥)) }
 {
     if count == 0 && held.is_empty() {
         Ok(false)
@@ -148,14 +181,19 @@ fn give<O: Drain, E: Drain>(
     output: &mut O,
     errors: &mut E,
 ) -> Result<bool, EnqueueFault>
-    ensures ok { IfOk result (λ more. let told = told_by coming.now.lines.items in
-        let now = ready_after handing.old.ready told ready in
-        (more ≡ true) × Fits handing.old.ready told ready × (handing.new ≡ ready_first now)
-        × Appends (O.taken output.old) (O.taken output.new) (item_lines (pipe_shown pipeline.now) (fresh handing.old now))
-        × Appends (E.taken errors.old) (E.taken errors.new)
-        (report_lines (pipe_shown pipeline.now) (fresh handing.old now))) }
-    ensures refused { IfErr result (λ fault. (fault ≡ EnqueueFault.WriteFault)
-        ⊎ ((O.taken output.new ≡ O.taken output.old) × (E.taken errors.new ≡ E.taken errors.old))) }
+    ensures { Gives (pipe_shown pipeline.now) (told_by coming.now.lines.items) ready number handing.old handing.new
+        (record {
+          printed = O.taken output.old;
+          unprinted = O.failed output.old;
+          reported = E.taken errors.old;
+          unreported = E.failed errors.old;
+        })
+        (record {
+          printed = O.taken output.new;
+          unprinted = O.failed output.new;
+          reported = E.taken errors.new;
+          unreported = E.failed errors.new;
+        }) result }
 {
     match taken(alloc, handing, coming, number, ready) {
         Ok(items) => match write_items(alloc, pipeline, items.as_slice(), output, errors) {
@@ -175,11 +213,12 @@ fn read_group<S: Source>(
     coming: &mut Coming,
     source: &mut S,
 ) -> Result<Option<u64>, EnqueueFault>
-    requires { coming.old.lines.items ≡ [] }
+    requires { (coming.old.lines.items ≡ []) × (coming.old.count ≡ 0) }
     ensures comes { (came : List ℕ) × Consumes (S.left source.old) (S.left source.new) came
-        × IfOk result (GroupComes (reader.old.held ++ came) reader.new.held coming.new.lines.items coming.new.count) }
-    ensures end { result ≡ Ok None → IsAtEnd (S.left source.new) }
-    ensures fault { IfErr result (λ fault. ¬ (fault ≡ EnqueueFault.WriteFault)) }
+        × ReadsGroup reader.old.limit (reader.old.held ++ came) reader.new.held coming.new.lines.items before
+        coming.new.count (S.failed source.old) (S.failed source.new) result }
+    ensures end { result ≡ Ok None → IsAtEnd (S.left source.new) × HasNoLf reader.new.held }
+    ensures limit { reader.new.limit ≡ reader.old.limit }
 {
     for _line in 0..u64::MAX {
         let number = before.saturating_add(coming.count).saturating_add(1);
@@ -202,10 +241,11 @@ fn read_on<S: Source>(
     source: &mut S,
 ) -> Result<Step, EnqueueFault>
     ensures moves { (came : List ℕ) × Consumes (S.left source.old) (S.left source.new) came
-        × IfOk result (StepsOn (reader.old.held ++ came) reader.new.held coming.old.lines.items coming.new.lines.items) }
-    ensures counts { IfOk result (λ step. step ≡ Step.Stops ⊎ (0 < coming.new.count)) }
-    ensures end { result ≡ Ok Step.Stops → IsAtEnd (S.left source.new) × (coming.new.count ≡ coming.old.count) }
-    ensures fault { IfErr result (λ fault. ¬ (fault ≡ EnqueueFault.WriteFault)) }
+        × TakesLine reader.old.limit (reader.old.held ++ came) reader.new.held coming.old.lines.items
+        coming.new.lines.items number (S.failed source.old) (S.failed source.new) result }
+    ensures counts { IfOk result (CountsStep coming.old.count coming.new.count) }
+    ensures end { result ≡ Ok Step.Stops → IsAtEnd (S.left source.new) × HasNoLf reader.new.held }
+    ensures limit { reader.new.limit ≡ reader.old.limit }
 {
     match next_said(alloc, number, reader, source) {
         Ok(Some(said)) => keep(coming, said),
@@ -217,7 +257,7 @@ fn read_on<S: Source>(
 /// Keeps what a line says, and says how the group goes on.
 fn keep(coming: &mut Coming, said: Said) -> Result<Step, EnqueueFault>
     ensures kept { IfOk result (KeepsSaid said coming.old.lines.items coming.new.lines.items) }
-    ensures counted { OnOk result (0 < coming.new.count) }
+    ensures counted { coming.new.count ≡ next_number coming.old.count }
     ensures fault { IfErr result (λ fault. fault ≡ EnqueueFault.NoMemory) }
 {
     coming.count = coming.count.saturating_add(1);
@@ -250,9 +290,10 @@ fn next_said<S: Source>(
     source: &mut S,
 ) -> Result<Option<Said>, EnqueueFault>
     ensures moves { (came : List ℕ) × Consumes (S.left source.old) (S.left source.new) came
-        × IfOk result (λ read. SaysLines (reader.old.held ++ came) reader.new.held (line_says read)) }
-    ensures end { result ≡ Ok None → IsAtEnd (S.left source.new) }
-    ensures fault { IfErr result (λ fault. ¬ (fault ≡ EnqueueFault.WriteFault)) }
+        × SaysNext reader.old.limit (reader.old.held ++ came) reader.new.held number (S.failed source.old)
+        (S.failed source.new) result }
+    ensures end { result ≡ Ok None → IsAtEnd (S.left source.new) × HasNoLf reader.new.held }
+    ensures limit { reader.new.limit ≡ reader.old.limit }
 {
     match reader.next_line(source) {
         Ok(true) => said_in(alloc, number, reader.line()),
@@ -305,11 +346,19 @@ fn write_items<O: Drain, E: Drain>(
     output: &mut O,
     errors: &mut E,
 ) -> Result<(), EnqueueFault>
-    ensures ok { OnOk result
-        (Appends (O.taken output.old) (O.taken output.new) (item_lines (pipe_shown pipeline.now) items.now)
-        × Appends (E.taken errors.old) (E.taken errors.new) (report_lines (pipe_shown pipeline.now) items.now)) }
-    ensures refused { IfErr result (λ fault. (fault ≡ EnqueueFault.WriteFault)
-        ⊎ ((O.taken output.new ≡ O.taken output.old) × (E.taken errors.new ≡ E.taken errors.old))) }
+    ensures { SendsItems (pipe_shown pipeline.now) items.now
+        (record {
+          printed = O.taken output.old;
+          unprinted = O.failed output.old;
+          reported = E.taken errors.old;
+          unreported = E.failed errors.old;
+        })
+        (record {
+          printed = O.taken output.new;
+          unprinted = O.failed output.new;
+          reported = E.taken errors.new;
+          unreported = E.failed errors.new;
+        }) result }
 {
     match pipeline.texts_of(alloc, items) {
         Ok(texts) => send_both(
@@ -329,9 +378,19 @@ fn send_both<O: Drain, E: Drain>(
     output: &mut O,
     errors: &mut E,
 ) -> Result<(), EnqueueFault>
-    ensures ok { OnOk result (Appends (O.taken output.old) (O.taken output.new) lines.now
-        × Appends (E.taken errors.old) (E.taken errors.new) reports.now) }
-    ensures refused { IfErr result (λ fault. fault ≡ EnqueueFault.WriteFault) }
+    ensures { SendsTexts lines.now reports.now
+        (record {
+          printed = O.taken output.old;
+          unprinted = O.failed output.old;
+          reported = E.taken errors.old;
+          unreported = E.failed errors.old;
+        })
+        (record {
+          printed = O.taken output.new;
+          unprinted = O.failed output.new;
+          reported = E.taken errors.new;
+          unreported = E.failed errors.new;
+        }) result }
 {
     match send(output, lines) {
         Ok(()) => send(errors, reports),
@@ -341,8 +400,8 @@ fn send_both<O: Drain, E: Drain>(
 
 /// Writes a text.
 fn send<D: Drain>(drain: &mut D, text: &[u8]) -> Result<(), EnqueueFault>
-    ensures ok { OnOk result (Appends (D.taken drain.old) (D.taken drain.new) text.now) }
-    ensures refused { IfErr result (λ fault. fault ≡ EnqueueFault.WriteFault) }
+    ensures { SendsLines text.now (D.taken drain.old) (D.taken drain.new) (D.failed drain.old) (D.failed drain.new)
+        result }
 {
     match write_all(drain, text) {
         Ok(()) => Ok(()),

@@ -1,10 +1,10 @@
 //! The template of a line, for whose fields values are put in.
 
-ghost use Rattle.std.specs.Prelude.{◌≡◌, ◌++◌, IfErr, IfOk, IfSome, IsUtf8, MatchOption, OnOk, codes, decimal};
-ghost use Rattle.std.specs.Prelude.{map};
+ghost use Rattle.std.specs.Prelude.{◌≡◌, ◌++◌, ℕ, List, IfErr, IfOk, IsUtf8, MatchOption, OnOk, codes, decimal, map};
 ghost use Rattle.enqueue_lines.specs.Quoting.{quoted};
-ghost use Rattle.enqueue_lines.specs.Template.{IsRefusedTemplate, IsWrongBrace, field_spelling, filled, filled_part};
-ghost use Rattle.enqueue_lines.specs.Template.{values_given, name_of, template_part, spells, field_value};
+ghost use Rattle.enqueue_lines.specs.Template.{Given, IsRefusedTemplate, IsWrongBrace, Part, Reads, field_value, filled};
+ghost use Rattle.enqueue_lines.specs.Template.{filled_part, name_of, template_part, values_given, with_field, with_text};
+ghost use Rattle.enqueue_lines.specs.Texts.{LacksByte};
 ghost use Rattle.enqueue_lines.specs.declared.template.Field.{Field};
 
 use super::fault::TemplateFault;
@@ -87,7 +87,7 @@ impl Template {
     /// braces that aren't right have no field's name between them; 8 `OpenBrace`, no brace closes the first one that
     /// isn't right; 5 `NoMemory`. It costs O(n) for n bytes.
     pub fn read(alloc: Global, text: &str) -> Result<Template, TemplateFault<'_>>
-        ensures read { IfOk result (λ template. text.entry.now ≡ spells template) }
+        ensures read { IfOk result (Reads text.entry.now) }
         ensures refused { IfErr result (IsRefusedTemplate text.entry.now) }
     {
         let mut pieces = Vec::new(alloc);
@@ -120,7 +120,8 @@ impl Template {
 
 /// What comes before the first open brace of a text, and what comes after it.
 fn next_brace(rest: &str) -> Option<(&str, &str)>
-    ensures { IfSome result (λ found. rest.entry.now ≡ found.0.now ++ codes "{" ++ found.1.now) }
+    ensures { MatchOption result (LacksByte 123 rest.entry.now)
+        (λ found. (rest.entry.now ≡ found.0.now ++ codes "{" ++ found.1.now) × LacksByte 123 found.0.now) }
 {
     rest.split_once('{')
 }
@@ -146,20 +147,20 @@ fn add_field(
     alloc: Global,
     pieces: &mut Vec<Piece>,
     plain: &str,
-    field: Field,
+    named: Field,
 ) -> Result<(), AllocError>
-    ensures { OnOk result (spells (map template_part pieces.new.items)
-        ≡ spells (map template_part pieces.old.items) ++ plain.now ++ field_spelling field) }
+    ensures { OnOk result (map template_part pieces.new.items
+        ≡ with_field (map template_part pieces.old.items) plain.now named) }
 {
     add_plain(alloc, pieces, plain)?;
-    pieces.push(Piece::Value(field))?;
+    pieces.push(Piece::Value(named))?;
     Ok(())
 }
 
 /// Adds a text.
 fn add_plain(alloc: Global, pieces: &mut Vec<Piece>, plain: &str) -> Result<(), AllocError>
-    ensures { OnOk result (spells (map template_part pieces.new.items)
-        ≡ spells (map template_part pieces.old.items) ++ plain.now) }
+    ensures { OnOk result (map template_part pieces.new.items
+        ≡ with_text (map template_part pieces.old.items) plain.now) }
 {
     pieces.push(Piece::Plain(String::from_str(alloc, plain)?))?;
     Ok(())
@@ -223,3 +224,10 @@ fn add_number(alloc: Global, text: &mut Vec<u8>, number: u32) -> Result<(), Allo
     let written = format!(in alloc; "{number}")?;
     add_quoted(text, written.as_bytes())
 }
+
+/// A law: of a text there is one reading, but for how its texts are cut. Whatever pieces read it, of which no text has
+/// an open brace, the same is written for the same values.
+pub fn templates_have_one_reading()
+    ensures { (whole : List ℕ) → (parts others : List Part) → Reads whole parts → Reads whole others
+        → (values : Given) → filled parts values ≡ filled others values }
+{}

@@ -11,7 +11,8 @@ returns-in-Err-clause-refused c =
     let all = lines_of c.args.text.now in
     let next = take_next c.loop-line.number all c.in-Some.line.now c.next_line.new.self (sym c.loop-line.invariant.left ∙ c.in-Some.ensures) in
     let up : c.saturating_add-number.result ≡ suc c.loop-line.number = omega (arith, next.2, c.loop-line.invariant.few) in
-    handed_refused all c.loop-line.number c.saturating_add-number.result c.in-Some.line.now c.in-Err.fault up next.3 c.in-Err.ensures.refused
+    handed_refused all c.loop-line.number c.saturating_add-number.result c.in-Some.line.now c.loop-line.items.items c.in-Err.fault
+    up next.3 c.loop-line.invariant.named c.in-Err.ensures.refused
 
 pub loop-line-preserved : goal.loop-line-preserved
 loop-line-preserved c =

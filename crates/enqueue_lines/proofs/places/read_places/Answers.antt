@@ -1,6 +1,8 @@
-use Rattle.std.proofs.Common.{◌≡◌, ◌∙◌, ◌-◌, ◌<◌, ◌∷◌, true, false, List, ℕ, Some, arith, sym, subst, ap, suc, take, drop, lit<}
+use Rattle.std.proofs.Common.{◌≡◌, ◌∙◌, ◌-◌, ◌<◌, true, false, List, ℕ, Some, arith, sym, subst, ap, suc, take, drop}
 use Rattle.std.specs.Prelude.{slice_get}
+use Rattle.std.specs.List.{AllZip}
 use Rattle.byte_ends.specs.Lines.{lines_of}
+use Rattle.gerrit_events.specs.Rows.{Tells}
 use Rattle.enqueue_lines.specs.Places.{AddsLine, ArePlacesOfRows}
 use Rattle.enqueue_lines.proofs.Rows.{all_taken, places_more, take_next}
 use Rattle.enqueue_lines.proofs.places.read_places.Goals as goal
@@ -12,7 +14,15 @@ returns-then-not-branch-clause-refused c =
     let place : c.saturating_add-number.result - 1 ≡ c.loop-line.number = omega (arith, next.2, c.loop-line.invariant.few) in
     let some : 0 < c.saturating_add-number.result = omega (arith, next.2, c.loop-line.invariant.few) in
     let says = subst (AddsLine c.in-Some.line.now c.loop-line.places c.add_line.new.places) c.if-not-branch.true c.in_ok-add_line.ensures.says in
-    (c.in-Some.line.now, some, subst (λ n. slice_get all n ≡ Some c.in-Some.line.now) (sym place) next.3, says)
+    let placed = c.loop-line.invariant.placed in (
+      c.in-Some.line.now,
+      some,
+      subst (λ n. slice_get all n ≡ Some c.in-Some.line.now) (sym place) next.3,
+      says,
+      placed.rows,
+      subst (λ n. AllZip Tells (take n all) placed.rows) (sym place) placed.tells,
+      placed.each,
+    )
 
 pub loop-line-preserved : goal.loop-line-preserved
 loop-line-preserved c =

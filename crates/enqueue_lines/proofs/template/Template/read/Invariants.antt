@@ -1,11 +1,12 @@
-use Rattle.std.proofs.Common.{◌≡◌, ◌++◌, IsUtf8, length, map}
-use Rattle.enqueue_lines.specs.Template.{template_part, spells}
+use Rattle.std.proofs.Common.{◌≡◌, ◌++◌, All, IsUtf8, length, map}
+use Rattle.enqueue_lines.specs.Template.{IsPlainPart, template_part, spells}
 use Rattle.enqueue_lines.proofs.template.Template.read.Given as goal
 
 -- the pieces so far, and what is left, are the whole text
 abbrev pub invariant-loop-plain : goal.invariant-loop-plain
 invariant-loop-plain l = record {
   whole : l.text ≡ spells (map template_part l.pieces.items) ++ l.rest;
+  plain : All IsPlainPart (map template_part l.pieces.items);
   text : IsUtf8 l.rest;
 }
 
