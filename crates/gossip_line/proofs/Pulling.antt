@@ -10,7 +10,7 @@ use Rattle.site_port.specs.Sinks.{Offer, Uptake, declined, fronts, hands, reache
 use Rattle.gossip_line.proofs.OneAnswer.{counts_broken}
 use Rattle.gossip_line.proofs.Talking.{All-push, flat_map-push}
 use Rattle.gossip_line.specs.Answers.{AnswerIsCutShort, IsWritten, Sends}
-use Rattle.gossip_line.specs.Pull.{CountsEnds, CountsReading, EndWith, Fails, Greets}
+use Rattle.gossip_line.specs.Pull.{CountsEnds, CountsReading, EndWith, Fails, GoOn, Greets, IsUnquit}
 use Rattle.gossip_line.specs.Pull.{BreaksPull, IsDeclined, IsPull, IsWholeRound, Leaves, OperationLine, PullsRound}
 use Rattle.gossip_line.specs.Pull.{PullsWell, ReadsAnswer, Round, SendsFront, Takes, TakesAll, answer_in, fault_of}
 use Rattle.gossip_line.specs.Pull.{front_line}
@@ -46,6 +46,12 @@ report_with (first ∷ next ∷ rounds) round more others is =
 end_with : (rounds : List Round) (more : Bool) → 0 < length rounds → Report rounds more → EndWith rounds more
 end_with [] more some report = absurd (omega arith)
 end_with (round ∷ rounds) more some report = report
+
+-- where others were left after all of them, each reported that
+go_on : (rounds : List Round) → Report rounds true → GoOn rounds
+go_on [] report = tt
+go_on (round ∷ []) report = (report, tt)
+go_on (round ∷ next ∷ rounds) report = (report.0, go_on (next ∷ rounds) report.1)
 
 sum_by-one : (round : Round) → sum_by (λ (r : Round). length r.lines) (round ∷ []) ≡ length round.lines
 sum_by-one round = omega arith
@@ -127,13 +133,13 @@ module _ {K : Type 0} (sinks : K → Offer → Uptake → K → Type 0) where
 
   pub front_failed : (limit : ℕ) (mid after : Moment K) (held : List ℕ) (front : Reaches) (fault : LineFault)
       → SendsFront front mid.taken after.taken mid.unwritten after.unwritten (Err fault)
-      → after.unread ≡ mid.unread → sinks mid.port fronts (reached front) after.port
+      → after.unread ≡ mid.unread → after.left ≡ mid.left → sinks mid.port fronts (reached front) after.port
       → IsRoundFailed limit mid held fault after
-  front_failed limit mid after held front line.WriteFault h same says =
-      record { leaves = inr (front, says); counts = (same, h.one_failed) }
-  front_failed limit mid after held front line.NoMemory h same says =
+  front_failed limit mid after held front line.WriteFault h same unread says =
+      record { leaves = (front, says, unread, h); counts = (same, h.one_failed) }
+  front_failed limit mid after held front line.NoMemory h same unread says =
       record { leaves = inl (front, says, h.0); counts = (same, h.1) }
-  front_failed limit mid after held front fault h same says = absurd h
+  front_failed limit mid after held front fault h same unread says = absurd h
 
   pub declined_failed : (limit : ℕ) (mid after : Moment K) (held : List ℕ) (why : SinkFault) (fault : LineFault)
       → fault ≡ fault_of why → IsDeclined sinks limit mid held why after
@@ -247,16 +253,6 @@ module _ {K : Type 0} (sinks : K → Offer → Uptake → K → Type 0) where
         few = omega arith;
       }
 
-module _ {K : Type 0} {sinks : K → Offer → Uptake → K → Type 0} {limit : ℕ} {mid : Moment K} {held : List ℕ} where
-  -- what is written after the last round isn't written
-  pub not_quit : (after : Moment K) (text : List ℕ) (fault : LineFault)
-      → Sends {T = Unit {0}} text (Ok tt) mid.taken after.taken mid.unwritten after.unwritten (Err fault)
-      → after.port ≡ mid.port → after.unread ≡ mid.unread → IsRoundFailed sinks limit mid held fault after
-  not_quit after text fault h same reads =
-      let failed = not_sent text mid.taken after.taken mid.unwritten after.unwritten fault h in
-      subst (λ f. IsRoundFailed sinks limit mid held f after) (sym failed.0)
-      (record { leaves = inl same; counts = (reads, failed.1.one_failed) })
-
 module _ {K : Type 0} {sinks : K → Offer → Uptake → K → Type 0} {limit : ℕ} {before mid : Moment K}
     {number taken : ℕ} {more : Bool} {reader : Reading} where
   -- a whole round more
@@ -280,27 +276,58 @@ module _ {K : Type 0} {sinks : K → Offer → Uptake → K → Type 0} {limit :
         few = omega (arith, so_far.few, whole.few, h.8);
       }
 
-  -- a pull that fails after some whole rounds
-  pub fails_after : (most : ℕ) (after : Moment K) (fault : LineFault)
-      → AreWhole sinks limit before mid number taken more reader → number ≤ most
-      → IsRoundFailed sinks limit mid reader.held fault after → Fails sinks limit most before after fault
-  fails_after most after fault so_far few failed =
-      let few_rounds : length so_far.rounds ≤ most = omega (arith, few, so_far.counted) in (
-        counts_from before.unread mid.unread after.unread before.unwritten mid.unwritten after.unwritten fault
-            so_far.pull.none_unread so_far.pull.written.none_failed failed.counts,
-        inr (mid, so_far.greeting, so_far.rounds, reader.held, so_far.pull, few_rounds, failed.leaves),
-      )
-
+module _ {K : Type 0} {sinks : K → Offer → Uptake → K → Type 0} {limit : ℕ} {before mid : Moment K}
+    {number taken : ℕ} {reader : Reading} where
   -- a pull whose next round fails
   pub fails_in_round : (most : ℕ) (after : Moment K) (fault : LineFault)
-      → AreWhole sinks limit before mid number taken more reader → number ≤ most
+      → AreWhole sinks limit before mid number taken true reader → number < most
       → Leaves sinks reader.limit mid reader.held fault after
       × CountsEnds mid.unread after.unread mid.unwritten after.unwritten fault
       → Fails sinks limit most before after fault
-  fails_in_round most after fault so_far few h = fails_after most after fault so_far few (record {
-    leaves = subst (λ l. Leaves sinks l mid reader.held fault after) so_far.same_limit h.0;
-    counts = h.1;
-  })
+  fails_in_round most after fault so_far few h =
+      let fewer : length so_far.rounds < most = omega (arith, few, so_far.counted) in
+      let at_most : length so_far.rounds ≤ most = omega (arith, fewer) in
+      let leaves = subst (λ l. Leaves sinks l mid reader.held fault after) so_far.same_limit h.0 in (
+        counts_from before.unread mid.unread after.unread before.unwritten mid.unwritten after.unwritten fault
+            so_far.pull.none_unread so_far.pull.written.none_failed h.1,
+        inr (
+          mid,
+          so_far.greeting,
+          so_far.rounds,
+          reader.held,
+          so_far.pull,
+          at_most,
+          inl (go_on so_far.rounds so_far.report, fewer, leaves),
+        ),
+      )
+
+module _ {K : Type 0} {sinks : K → Offer → Uptake → K → Type 0} {limit : ℕ} {before mid : Moment K}
+    {number taken : ℕ} {more : Bool} {reader : Reading} where
+  -- a pull that can't write `quit` after its whole rounds
+  pub fails_at_quit : (most : ℕ) (after : Moment K) (fault : LineFault)
+      → AreWhole sinks limit before mid number taken more reader → 0 < number → number ≤ most
+      → (more ≡ false) ⊎ (number ≡ most)
+      → Sends {T = Unit {0}} (codes "quit\n") (Ok tt) mid.taken after.taken mid.unwritten after.unwritten (Err fault)
+      → (after.port ≡ mid.port) × (after.left ≡ mid.left) × (after.unread ≡ mid.unread)
+      → Fails sinks limit most before after fault
+  fails_at_quit most after fault so_far some few last unsent same =
+      let failed = not_sent (codes "quit\n") mid.taken after.taken mid.unwritten after.unwritten fault unsent in
+      let at_most : length so_far.rounds ≤ most = omega (arith, few, so_far.counted) in
+      let counts = subst (λ f. CountsEnds mid.unread after.unread mid.unwritten after.unwritten f) (sym failed.0)
+      (same.2, failed.1.one_failed) in
+      let unquit : IsUnquit sinks most mid so_far.rounds fault after = record {
+        fault_is = failed.0;
+        cut = failed.1;
+        same = (same.0, same.1);
+        more = more;
+        ends = end_with so_far.rounds more (omega (arith, some, so_far.counted)) so_far.report;
+        last = elim last as (λ h. (more ≡ false) ⊎ (length so_far.rounds ≡ most))
+            [ inl e ↦ inl e | inr e ↦ inr (omega (arith, e, so_far.counted)) ];
+      } in (
+        counts_from before.unread mid.unread after.unread before.unwritten mid.unwritten after.unwritten fault
+            so_far.pull.none_unread so_far.pull.written.none_failed counts,
+        inr (mid, so_far.greeting, so_far.rounds, reader.held, so_far.pull, at_most, inr unquit),
+      )
 
   -- a pull that ends well after so many whole rounds
   pub ends_well : (most rounds : ℕ) (after : Moment K) → AreWhole sinks limit before mid number taken more reader

@@ -81,6 +81,10 @@ EndWith [] more = ⊥
 EndWith (round ∷ []) more = round.more ≡ more
 EndWith (round ∷ next ∷ rounds) more = (round.more ≡ true) × EndWith (next ∷ rounds) more
 
+-- each of the rounds reported that others are left
+abbrev pub GoOn : List Round → Type 0
+GoOn rounds = AllByRecursion (λ round. round.more ≡ true) rounds
+
 -- how a fault is counted, of reads and of writes: each of the two by its own fault alone
 abbrev pub CountsEnds : (unread reads unwritten writes : ℕ) → LineFault → Type 0
 CountsEnds unread reads unwritten writes ReadFault = OneFailed unread reads × (writes ≡ unwritten)
@@ -238,13 +242,15 @@ module _ {K : Type 0} (sinks : K → Offer → Uptake → K → Type 0) where
       × Consumes mid.left after.left came × BreaksPull limit (held ++ came) after.left fault
       × Appends mid.taken after.taken (front_line front)
 
-  -- the sink answered its front, of which nothing was written, or of which it isn't known how much was
+  -- the sink answered its front, of which nothing was written; or a proper prefix of its line, and then a write failed,
+  -- and nothing more was read
   abbrev pub IsUnasked : Moment K → Moment K → Type 0
   IsUnasked mid after = (front : Reaches) × sinks mid.port fronts (reached front) after.port × (after.taken ≡ mid.taken)
 
   abbrev pub IsUnwritten : Moment K → Moment K → Type 0
   IsUnwritten mid after =
-      (after.port ≡ mid.port) ⊎ ((front : Reaches) × sinks mid.port fronts (reached front) after.port)
+      (front : Reaches) × sinks mid.port fronts (reached front) after.port × (after.left ≡ mid.left)
+      × AnswerIsCutShort (front_line front) mid.taken after.taken mid.unwritten after.unwritten
 
   -- what is left of the sink, and what was written, where a round isn't whole
   abbrev pub Leaves : ℕ → Moment K → List ℕ → LineFault → Moment K → Type 0
@@ -286,6 +292,23 @@ module _ {K : Type 0} (sinks : K → Offer → Uptake → K → Type 0) where
     pub ends : EndWith rounds pulled.more
     pub last : (pulled.more ≡ false) ⊎ (length rounds ≡ most)
 
+  -- after the last round, which reported that nothing is left, or was the last that may be, a proper prefix of `quit` was
+  -- written, and then a write failed
+  pub record IsUnquit (most : ℕ) (mid : Moment K) (rounds : List Round) (fault : LineFault) (after : Moment K) : Type 0 where
+    pub fault_is : fault ≡ WriteFault
+    pub cut : AnswerIsCutShort (codes "quit\n") mid.taken after.taken mid.unwritten after.unwritten
+    pub same : (after.port ≡ mid.port) × (after.left ≡ mid.left)
+    pub more : Bool
+    pub ends : EndWith rounds more
+    pub last : (more ≡ false) ⊎ (length rounds ≡ most)
+
+  -- where a pull fails after its whole rounds: in the next one, each of them having reported that others are left, or at
+  -- `quit`
+  abbrev pub Stops : ℕ → ℕ → Moment K → List Round → List ℕ → LineFault → Moment K → Type 0
+  Stops limit most mid rounds held fault after =
+      (GoOn rounds × (length rounds < most) × Leaves limit mid held fault after)
+      ⊎ IsUnquit most mid rounds fault after
+
   -- a pull that fails has handed over the operations of the whole answers before, and nothing more
   abbrev pub Fails : ℕ → ℕ → Moment K → Moment K → LineFault → Type 0
   Fails limit most before after fault =
@@ -293,7 +316,7 @@ module _ {K : Type 0} (sinks : K → Offer → Uptake → K → Type 0) where
       × (((after.port ≡ before.port) × (came : List ℕ) × Consumes before.left after.left came × IsUngreeted limit came after.left fault
       × Hails before.taken after.taken fault)
       ⊎ ((mid : Moment K) × (greeting : List ℕ) × (rounds : List Round) × (held : List ℕ) × IsPull limit before mid greeting rounds held × (length rounds ≤ most)
-      × Leaves limit mid held fault after))
+      × Stops limit most mid rounds held fault after))
 
   abbrev pub Pull : ℕ → ℕ → Moment K → Moment K → Result Pulled LineFault → Type 0
   Pull limit most before after (Ok pulled) = PullsWell limit most before after pulled

@@ -1,5 +1,5 @@
 -- What comes in a pull: sound operations, and not too many of them to count.
-use Rattle.std.proofs.Common.{◌≡◌, ◌∙◌, ◌<◌, ◌≤◌, ◌+◌, ◌*◌, ℕ, true, false, List, [], ◌∷◌, ◌++◌, length, take, refl, sym, ap, subst}
+use Rattle.std.proofs.Common.{◌≡◌, ◌∙◌, ◌<◌, ◌≤◌, ◌+◌, ◌*◌, ℕ, Bool, true, false, List, [], ◌∷◌, ◌++◌, length, take, refl, sym, ap, subst}
 use Rattle.std.proofs.Common.{arith, inl, inr, length-append, flat_map}
 use Rattle.std.proofs.lemmas.List.{length-map}
 use Rattle.std.proofs.Math.Seq.{take-append_seam}
@@ -17,8 +17,8 @@ use Rattle.gossip_line.specs.declared.pull.Pulled.{Pulled}
 use Rattle.line_reader.specs.Lines.{line_limit}
 use Rattle.record_pull.specs.Pulling.{Comes, Gathers, most_rounds}
 use Rattle.replica_core.specs.Journal.{arrived, all_arrived, has}
-use Rattle.replica_core.specs.JournalLaws.{IsPartOf, all_arrived-append, has-all_arrived, has-first, has-later}
-use Rattle.replica_core.specs.JournalLaws.{same_operation_cases}
+use Rattle.replica_core.specs.JournalLaws.{IsPartOf, all_arrived-append, all_arrived-push, has-all_arrived, has-first}
+use Rattle.replica_core.specs.JournalLaws.{has-later, same_operation_cases}
 use Rattle.review_ops.specs.Operation.{Operation}
 use Rattle.snapshot_text.specs.Sound.{AreSoundOperations, IsSound}
 
@@ -75,17 +75,26 @@ comes before after pulled none well =
 never_closed : (before after : Moment (List Operation))
     → Fails Gathers line_limit most_rounds before after Closed → ⊥
 never_closed before after (counts, inl ungreeted) = ungreeted.3
-never_closed before after (counts, inr left) = elim left.6 [ inl front ↦ front.0 | inr taking ↦ taking.8 ]
+never_closed before after (counts, inr left) = elim left.6 [
+  | inl next ↦ elim next.2 [ inl front ↦ front.0 | inr taking ↦ taking.8 ]
+  | inr unquit ↦ let other = unquit.fault_is in cc
+]
 
 never_listed : (before after : Moment (List Operation))
     → Fails Gathers line_limit most_rounds before after NotListed → ⊥
 never_listed before after (counts, inl ungreeted) = ungreeted.3
-never_listed before after (counts, inr left) = elim left.6 [ inl front ↦ front.0 | inr taking ↦ taking.8 ]
+never_listed before after (counts, inr left) = elim left.6 [
+  | inl next ↦ elim next.2 [ inl front ↦ front.0 | inr taking ↦ taking.8 ]
+  | inr unquit ↦ let other = unquit.fault_is in cc
+]
 
 never_far : (before after : Moment (List Operation))
     → Fails Gathers line_limit most_rounds before after FarAhead → ⊥
 never_far before after (counts, inl ungreeted) = ungreeted.3
-never_far before after (counts, inr left) = elim left.6 [ inl front ↦ front.0 | inr taking ↦ taking.8 ]
+never_far before after (counts, inr left) = elim left.6 [
+  | inl next ↦ elim next.2 [ inl front ↦ front.0 | inr taking ↦ taking.8 ]
+  | inr unquit ↦ let other = unquit.fault_is in cc
+]
 
 pub may_fail : (before after : Moment (List Operation)) (fault : LineFault)
     → Fails Gathers line_limit most_rounds before after fault → IsPullFault (Failed fault)
@@ -135,6 +144,24 @@ is_sound journal came =
 
 pub is_few : (journal : List Operation) (came : Comes journal) → length journal ≤ length came.ops
 is_few journal came = omega (arith, ap length came.is, length-all_arrived [] came.ops)
+
+-- ---- a record taken into an empty one
+
+again_by : (journal : List Operation) (op : Operation) (known : Bool) → has journal op ≡ known
+    → all_arrived [] journal ≡ journal
+    → all_arrived [] (cond known journal (journal ++ op ∷ [])) ≡ cond known journal (journal ++ op ∷ [])
+again_by journal op true is same = same
+again_by journal op false is same = all_arrived-push [] journal op ∙ ap (λ (all : List Operation). arrived all op) same
+    ∙ ap (λ known. cond known journal (journal ++ op ∷ [])) is
+
+again_all : (journal ops : List Operation) → all_arrived [] journal ≡ journal
+    → all_arrived [] (all_arrived journal ops) ≡ all_arrived journal ops
+again_all journal [] same = same
+again_all journal (op ∷ ops) same = again_all (arrived journal op) ops (again_by journal op (has journal op) refl same)
+
+-- a record that came arrives there again as it is
+pub arrives_again : (journal : List Operation) → Comes journal → all_arrived [] journal ≡ journal
+arrives_again journal came = ap (all_arrived []) came.is ∙ again_all [] came.ops refl ∙ sym came.is
 
 pub none_of : (ops : List Operation) → length ops ≡ 0 → ops ≡ []
 none_of [] none = refl

@@ -16,6 +16,7 @@ use snapshot_text::snapshots_say_their_operations;
 pub fn joined(gathering: Gathering, pulled: Replica) -> Result<Gathering, PullFault>
     requires { Comes pulled }
     ensures ok { IfOk result (BringsRecord None gathering) }
+    ensures all { IfOk result (λ both. both ≡ all_arrived gathering pulled) }
     ensures err { IfErr result IsPullFault }
 {
     snapshots_say_their_operations();

@@ -8,6 +8,14 @@ use Rattle.review_ops.specs.Operation.{Operation}
 use Rattle.site_port.specs.Sinks.{Offer, Uptake, at_time, clocks, declined, hands}
 use Rattle.site_port.specs.declared.fault.SinkFault.{SinkFault}
 use Rattle.site_port.specs.declared.fault.SinkFault.TheVariants as sink
+use Rattle.site_port.specs.declared.guarded.Guarded.{Guarded}
+
+-- the guard of a guarded sink, and the sink behind it
+abbrev pub guard_in : {K : Type 0} → Guarded K → Guard
+guard_in guarded = guarded.guard.now
+
+abbrev pub sink_in : {K : Type 0} → Guarded K → K
+sink_in guarded = guarded.sink
 
 -- how a sink is said to decline what is barred
 abbrev pub declined_by : Bar → SinkFault

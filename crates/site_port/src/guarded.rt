@@ -1,7 +1,7 @@
 //! A sink behind a guard.
 
 ghost use Rattle.std.specs.Prelude.{◌≡◌};
-ghost use Rattle.site_port.specs.Guarding.{declined_by};
+ghost use Rattle.site_port.specs.Guarding.{declined_by, guard_in, sink_in};
 
 use super::fault::SinkFault;
 use super::port::Sink;
@@ -12,13 +12,30 @@ use review_ops::Op;
 /// A sink that is handed operations only if a guard lets all of them in: then the whole list is handed on, in its
 /// order, and else nothing is, and the sink stays as it is. What the guard lets in is judged by the greatest time that
 /// the sink's record has before. Refusals beside those of the sink: 11 `NotListed`, 12 `FarAhead`, as `Guard::admit`
-/// says.
+/// says. Who has it can only look at the sink behind the guard: nothing is handed to that but through the guard.
 #[derive(Drop)]
 pub struct Guarded<'g, K: Sink> {
     /// What the guard lets in.
-    pub guard: &'g Guard,
+    guard: &'g Guard,
     /// The sink behind it.
-    pub sink: K,
+    sink: K,
+}
+
+impl<'g, K: Sink> Guarded<'g, K> {
+    /// A sink behind a guard.
+    pub fn new(guard: &'g Guard, sink: K) -> Guarded<'g, K>
+        ensures by { guard_in result ≡ guard.now }
+        ensures behind { sink_in result ≡ sink }
+    {
+        Guarded { guard, sink }
+    }
+
+    /// The sink behind the guard, to look at.
+    pub fn sink(&self) -> &K
+        ensures { result.now ≡ sink_in self.now }
+    {
+        &self.sink
+    }
 }
 
 impl<'g, K: Sink> Sink for Guarded<'g, K> {

@@ -68,10 +68,10 @@ type Pull = (Result<Pulled, LineFault>, usize);
 
 /// The pull by a guarded port of a peer that answers so.
 fn pulled_by(alloc: Global, guard: &Guard, port: OwnPort, answer: &[u8]) -> Pull {
-    let mut sink = Guarded { guard, sink: port };
+    let mut sink = Guarded::new(guard, port);
     let mut drain = Ends::new(Vec::new(alloc));
     let ended = pull_run(alloc, &mut Ends::new(answer), &mut drain, &mut sink);
-    (ended, sink.sink.replica().len())
+    (ended, sink.sink().replica().len())
 }
 
 /// How a pull of site 1, which has one operation, ends where the peer hands over these, and how many it has then.
@@ -232,14 +232,11 @@ fn answered(
     Result<u64, SinkFault>,
     usize,
 ) {
-    let mut sink = Guarded {
-        guard,
-        sink: Timeless { handed: 0 },
-    };
+    let mut sink = Guarded::new(guard, Timeless { handed: 0 });
     let taken = sink.take_all(ops);
     let front = sink.front().err();
     let latest = sink.latest_time();
-    (taken, front, latest, sink.sink.handed)
+    (taken, front, latest, sink.sink().handed)
 }
 
 #[test]

@@ -10,7 +10,7 @@ returns-in_err-send_front-clause-pulls g c =
     let mid = moment_of g.S.Source g.D.Drain c.args.sink.now c.args.source.now c.args.drain.now in
     let after = moment_of g.S.Source g.D.Drain c.front.new.self c.args.source.now c.send_front.new.drain in
     let failed = front_failed g.K.Sink.sinks c.args.reader.now.limit mid after c.args.reader.now.held c.in-Ok.front
-    c.in_err-send_front.field-0.0 c.in_err-send_front.ensures refl c.in-Ok.ensures in
+    c.in_err-send_front.field-0.0 c.in_err-send_front.ensures refl refl c.in-Ok.ensures in
     rw (p.1, p.2) (failed.leaves, failed.counts)
 
 pub returns-in_err-ops-clause-pulls : goal.returns-in_err-ops-clause-pulls

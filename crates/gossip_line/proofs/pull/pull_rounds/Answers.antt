@@ -3,8 +3,8 @@ use Rattle.std.proofs.KnownBytes.{Consumes-nil}
 use Rattle.std.proofs.lemmas.Result.{err_from_is_err_and}
 use Rattle.line_reader.specs.Lines.{Reading}
 use Rattle.gossip_line.proofs.Moments.{moment_of}
-use Rattle.gossip_line.proofs.Pulling.{ends_well, fails_after, no_round, not_false, not_quit, not_true, one_more}
-use Rattle.gossip_line.proofs.Pulling.{fails_in_round}
+use Rattle.gossip_line.proofs.Pulling.{ends_well, fails_at_quit, fails_in_round, no_round, not_false, not_true}
+use Rattle.gossip_line.proofs.Pulling.{one_more}
 use Rattle.gossip_line.specs.Pull.{IsUngreeted}
 use Rattle.gossip_line.proofs.pull.pull_rounds.Goals as goal
 
@@ -30,10 +30,11 @@ returns-in_err-send g c =
     let now = moment_of g.S.Source g.D.Drain pulled.sink pulled.source pulled.drain in
     let after = moment_of g.S.Source g.D.Drain pulled.sink pulled.source c.send.new.drain in
     let fault = c.in_err-send.field-0.0 in
-    let rounds = one_more now c.in_ok-handed.handed pulled.reader c.loop-round.invariant c.pull_round.ensures.limit
-    refl c.in_ok-handed.ensures.pulls in
-    rw (p.1, p.2) (fails_after c.args.most after fault rounds (omega arith)
-    (not_quit after _ fault c.in_err-send.ensures refl refl))
+    let handed = c.in_ok-handed.handed in
+    let rounds = one_more now handed pulled.reader c.loop-round.invariant c.pull_round.ensures.limit
+    (not_true handed.more c.if-not-handed.true) c.in_ok-handed.ensures.pulls in
+    rw (p.1, p.2) (fails_at_quit c.args.most after fault rounds (omega arith) (omega arith) (inl refl)
+    c.in_err-send.ensures (refl, refl, refl))
 
 pub returns-then-not-handed : goal.returns-then-not-handed
 returns-then-not-handed g c =
@@ -59,8 +60,8 @@ returns-in_err-send-2 g c =
     let p = err_from_is_err_and c.from_residual-in_err-send-2.result c.from_residual-in_err-send-2.ensures.1 in
     let after = moment_of g.S.Source g.D.Drain c.loop-round.sink c.loop-round.source c.send-2.new.drain in
     let fault = c.in_err-send-2.field-0.0 in
-    rw (p.1, p.2) (fails_after c.args.most after fault c.loop-round.invariant (omega arith)
-    (not_quit after _ fault c.in_err-send-2.ensures refl refl))
+    rw (p.1, p.2) (fails_at_quit c.args.most after fault c.loop-round.invariant (omega arith) (omega arith)
+    (inr (omega arith)) c.in_err-send-2.ensures (refl, refl, refl))
 
 pub returns : goal.returns
 returns g c =

@@ -1,7 +1,7 @@
 use Rattle.std.proofs.Common.{◌≡◌, ◌∙◌, ap, sym, [], arith}
 use Rattle.replica_core.specs.Journal.{all_arrived}
 use Rattle.snapshot_text.specs.Snapshot.{snapshot_text}
-use Rattle.record_pull.proofs.Coming.{is_few, is_sound, none_of}
+use Rattle.record_pull.proofs.Coming.{arrives_again, is_few, is_sound, none_of}
 use Rattle.record_pull.proofs.joining.joined.Goals as goal
 
 pub returns-then-len-eq0-clause-ok : goal.returns-then-len-eq0-clause-ok
@@ -25,3 +25,9 @@ returns-in-Ok-clause-ok c =
           (omega (arith, is_few journal c.requires, c.requires.few)),
       c.in-Ok.ensures,
     )
+
+pub returns-then-len-eq0-clause-all : goal.returns-then-len-eq0-clause-all
+returns-then-len-eq0-clause-all c =
+    let pulled = c.args.pulled in
+    let none : c.args.gathering ≡ [] = none_of c.args.gathering (sym c.len.ensures ∙ c.if-len-eq0.true) in
+    c.onto.ensures ∙ sym (arrives_again pulled c.requires) ∙ sym (ap (λ journal. all_arrived journal pulled) none)
