@@ -61,7 +61,9 @@ pub fn dialed<S: Source + Drop, D: Drain + Drop>(
 ) -> Result<(LinkSource<S>, LinkDrain<D>), DialFault>
     ensures { (came : List ℕ) × (later : S) × (end : D) × Consumes (S.left source) (S.left later) came
         × GreetsByKey (as_line (greeting_text (greeting_of secret.now site nonce))) (D.taken drain) (D.taken end) result
-        × DialsEnds S.left D.taken secret.now (greeting_of secret.now site nonce) came later end result }
+        × DialsEnds S.left D.taken secret.now (greeting_of secret.now site nonce) came later end result
+        × CountsReads (S.failed source) (S.failed later) result
+        × CountsWrites (D.failed drain) (D.failed end) result }
 {
     let mut source = source;
     let mut drain = drain;

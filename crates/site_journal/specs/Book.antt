@@ -1,5 +1,5 @@
 -- A journal over a tape, as callers see it, and what its calls promise.
-use Rattle.std.specs.Prelude.{◌≡◌, ◌⊎◌, ◌-◌, ℕ, Bool, true, false, List, [], ◌++◌, Option, IfSome, length, take}
+use Rattle.std.specs.Prelude.{◌≡◌, ◌≤◌, ◌⊎◌, ◌+◌, ◌-◌, ◌^◌, ℕ, Bool, true, false, List, [], ◌++◌, Option, IfSome, length, take}
 use Rattle.review_ops.specs.Operation.{Operation}
 use Rattle.replica_core.specs.Journal.{all_arrived}
 use Rattle.snapshot_text.specs.Snapshot.{operation_lines}
@@ -9,6 +9,8 @@ use Rattle.site_journal.specs.Text.{header_line, IsFresh, SaysJournal}
 use Rattle.site_journal.specs.Tape.{Image, IsLeftBy, IsSettled, Changes}
 use Rattle.site_journal.specs.declared.journal.Written.{Written}
 use Rattle.site_journal.specs.declared.journal.Written.TheVariants.{Kept, Undone, Doubtful}
+use Rattle.site_journal.specs.declared.fault.JournalFault.{JournalFault}
+use Rattle.site_journal.specs.declared.fault.JournalFault.TheVariants.{Failed as TapeFailed}
 use Rattle.site_journal.specs.declared.fault.KeepFault.{KeepFault}
 use Rattle.site_journal.specs.declared.fault.KeepFault.TheVariants.{NoMemory, TooLong, Failed, Spoiled}
 
@@ -31,6 +33,11 @@ IsUnharmed old new =
     ⊎ (IsFresh old.contents × (IsPrefix new.written old.written ⊎ IsPrefix new.written header_line))
     ⊎ ((ops : List Operation) × (rest : List ℕ) × SaysJournal old.contents ops rest
     × IsPrefix (take (length old.contents - length rest) old.synced) new.synced × IsPrefix new.written old.written)
+
+-- what an opening that was refused leaves: what there was, or, if the tape failed, no harm
+abbrev pub IsLeftRefused : Option Image → JournalFault → Option Image → Type 0
+IsLeftRefused old fault new =
+    (¬ (fault ≡ TapeFailed) → new ≡ old) × (fault ≡ TapeFailed → Changes old new IsUnharmed)
 
 -- ---- keeping
 
@@ -62,6 +69,10 @@ IsNotKept old Spoiled new = (old.is_spoiled ≡ true) × (new ≡ old)
 IsNotKept old Failed new =
     (old.is_spoiled ≡ false) × (¬ NoneFailed old.failed new.failed)
     × (new.is_spoiled ≡ false → Changes old.image new.image (λ i j. IsSettled i × IsSettled j × (j.contents ≡ i.contents)))
+
+-- with the lines of these operations the journal would have 2^64 bytes or more
+abbrev pub IsFull : Book → List Operation → Type 0
+IsFull book ops = IfSome book.image (λ i. 2 ^ 64 ≤ length i.contents + length (operation_lines ops))
 
 -- what a crash leaves says all that was acknowledged, and then the first so many of these, all of them where they were
 -- acknowledged too

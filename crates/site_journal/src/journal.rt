@@ -1,13 +1,13 @@
 //! A journal: operations are appended to it, and what is acknowledged stays.
 
-ghost use Rattle.std.specs.Prelude.{◌≡◌, ◌≤◌, ◌+◌, ◌++◌, ◌∷◌, [], ℕ, List, Some, false, IfOk, IfErr, IfSome, IsOk, IsSome};
+ghost use Rattle.std.specs.Prelude.{◌≡◌, ◌≤◌, ◌+◌, ◌⊎◌, ◌++◌, ◌∷◌, [], ℕ, List, Err, Some, false, IfOk, IfErr, IfSome, IsOk, IsSome};
 ghost use Rattle.std.specs.Prelude.{MatchResult, OnOk, length, map, vec_len};
 ghost use Rattle.review_ops.specs.Operation.{Operation};
 ghost use Rattle.snapshot_text.specs.Snapshot.{operation_lines};
 ghost use Rattle.snapshot_text.specs.Sound.{AreSoundOperations};
 ghost use Rattle.byte_ends.specs.Failures.{most_failures};
-ghost use Rattle.site_journal.specs.Book.{CountsWritten, IsHolding, IsKeptAfter, IsNotKept, IsOpened, IsUnwritten};
-ghost use Rattle.site_journal.specs.Book.{IsWritten, SurvivesCrashes, TakesBack};
+ghost use Rattle.site_journal.specs.Book.{CountsWritten, IsFull, IsHolding, IsKeptAfter, IsLeftRefused, IsNotKept, IsOpened};
+ghost use Rattle.site_journal.specs.Book.{IsUnwritten, IsWritten, SurvivesCrashes, TakesBack};
 ghost use Rattle.site_journal.specs.Fault.{CountsJournalFault, IsJournalRefusal};
 ghost use Rattle.site_journal.specs.Tape.{Changes, IsAtStart, IsSettled};
 ghost use Rattle.site_journal.specs.Text.{AreShort};
@@ -64,7 +64,8 @@ impl<T: Tape + Drop> Journal<T> {
         ensures holds { IfOk result (λ started. (ops : List Operation) × IsHolding started.journal ops) }
         ensures refused { IfErr result (λ fault. IfSome (T.image tape) (λ i. IsJournalRefusal i.contents fault)) }
         ensures counted { MatchResult result (λ started. started.journal.failed ≡ T.failed tape)
-            (λ fault. (failed : ℕ) × CountsJournalFault (T.failed tape) failed fault) }
+            (λ fault. (later : T) × CountsJournalFault (T.failed tape) (T.failed later) fault
+            × IsLeftRefused (T.image tape) fault (T.image later)) }
     {
         Journal::open_by(alloc, &OneByOne, tape)
     }
@@ -82,7 +83,8 @@ impl<T: Tape + Drop> Journal<T> {
         ensures holds { IfOk result (λ started. (ops : List Operation) × IsHolding started.journal ops) }
         ensures refused { IfErr result (λ fault. IfSome (T.image tape) (λ i. IsJournalRefusal i.contents fault)) }
         ensures counted { MatchResult result (λ started. started.journal.failed ≡ T.failed tape)
-            (λ fault. (failed : ℕ) × CountsJournalFault (T.failed tape) failed fault) }
+            (λ fault. (later : T) × CountsJournalFault (T.failed tape) (T.failed later) fault
+            × IsLeftRefused (T.image tape) fault (T.image later)) }
     {
         let mut tape = tape;
         let Opened { replica, len, torn } = open_tape_by(alloc, batches, &mut tape)?;
@@ -102,13 +104,15 @@ impl<T: Tape + Drop> Journal<T> {
 impl<T: Tape> Journal<T> {
     /// Adds the lines of the operations, and has them stay: at `Ok` they are acknowledged. At `Err` none of them is:
     /// where the tape failed it is cut back to what was acknowledged and that is synced, and where that fails too, or a
-    /// sync has failed, the journal keeps nothing any more. Whatever a crash leaves says what was acknowledged, and
+    /// sync has failed, the journal keeps nothing any more. `TooLong` is only for an operation whose line has more than
+    /// 524,288 bytes, and for a journal of 2^64 bytes. Whatever a crash leaves says what was acknowledged, and
     /// then the first so many of the operations. It costs O(n) for n bytes of their lines, and one sync.
     pub fn append(&mut self, ops: &[Op]) -> Result<(), KeepFault>
         ensures ok { OnOk result (IsKeptAfter self.old ops.now self.new) }
         ensures holds { OnOk result
             ((before : List Operation) → IsHolding self.old before → IsHolding self.new (before ++ ops.now)) }
         ensures err { IfErr result (λ fault. IsNotKept self.old fault self.new) }
+        ensures long { result ≡ Err KeepFault.TooLong → (¬ AreShort ops.now) ⊎ IsFull self.old ops.now }
         ensures any_crash { (before : List Operation) → IsHolding self.old before
             → SurvivesCrashes self.new before ops.now (IsOk result) }
 
@@ -161,6 +165,7 @@ fn lines_of(alloc: Global, ops: &[Op]) -> Result<Vec<u8>, KeepFault>
     ensures sound { OnOk result (AreSoundOperations ops.now) }
     ensures short { OnOk result (AreShort ops.now) }
     ensures err { IfErr result (λ fault. IsUnwritten fault) }
+    ensures long { result ≡ Err KeepFault.TooLong → ¬ AreShort ops.now }
 {
     let mut lines = Vec::new(alloc);
     for op in ops {

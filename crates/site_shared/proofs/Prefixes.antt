@@ -1,6 +1,6 @@
 -- Beginnings of one list.
 use Rattle.std.proofs.Common.{◌≡◌, ◌≤◌, Bool, true, false, MatchBool, nat_le, List, [], ◌∷◌, ◌++◌, length, refl, ap}
-use Rattle.std.proofs.Common.{sym, ◌∙◌, arith, append_assoc}
+use Rattle.std.proofs.Common.{sym, ◌∙◌, arith, append_assoc, length-append}
 use Rattle.std.proofs.lemmas.Bool.Decides.{nat_tests}
 use mathlib.Core.List.{IsPrefix}
 
@@ -36,3 +36,10 @@ pub prefix_either : {A : Type 0} (xs ys zs : List A) → IsPrefix xs zs → IsPr
     → nat_le (length xs) (length ys) ≡ b → MatchBool b (IsPrefix xs ys) (IsPrefix ys xs)
 prefix_either xs ys zs p q true is = let le : length xs ≤ length ys = grind (arith, nat_tests) in prefix_shorter xs ys zs p q le
 prefix_either xs ys zs p q false is = let le : length ys ≤ length xs = grind (arith, nat_tests) in prefix_shorter ys xs zs q p le
+
+-- what begins a list is no longer than it
+pub prefix_covers : {A : Type 0} (xs ys : List A) → IsPrefix xs ys → (b : Bool) → nat_le (length xs) (length ys) ≡ b
+    → b ≡ true
+prefix_covers xs ys p true is = refl
+prefix_covers xs ys p false is =
+    let le : length xs ≤ length ys = omega (arith, length-append xs p.0, ap length p.1) in grind (arith, nat_tests)

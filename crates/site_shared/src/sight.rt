@@ -1,6 +1,6 @@
 //! How far a desk, a receipt or a window has seen the list of publishes.
 
-ghost use Rattle.std.specs.Prelude.{◌≡◌, ◌<◌, ◌⊎◌, ◌^◌, [], ◌∷◌, ◌++◌, length, IfSome, None, MatchBool};
+ghost use Rattle.std.specs.Prelude.{◌≡◌, ◌<◌, ◌⊎◌, ◌^◌, [], ◌∷◌, ◌++◌, length, IfSome, None, MatchBool, true};
 ghost use mathlib.Core.List.{IsPrefix};
 ghost use Rattle.site_shared.specs.Law.{head_of};
 
@@ -48,11 +48,12 @@ impl Sight {
         }
     }
 
-    /// Whether this one has seen as much as another one of its list. One of the two begins the other.
+    /// Whether this one has seen all that another one of its list has. One of the two begins the other.
     pub fn covers(&self, other: &Sight) -> bool
         requires { other.now.seen.book ≡ self.now.seen.book }
-        ensures { MatchBool result (IsPrefix other.now.seen.log self.now.seen.log)
+        ensures one { MatchBool result (IsPrefix other.now.seen.log self.now.seen.log)
             (IsPrefix self.now.seen.log other.now.seen.log) }
+        ensures all { IsPrefix other.now.seen.log self.now.seen.log → result ≡ true }
     {
         let mut both = self.seen.again();
         both.learn(&other.seen);

@@ -1,7 +1,7 @@
 //! How threads look at a running site.
 
 ghost use Rattle.std.specs.Prelude.{◌≡◌, ◌⊎◌, ◌<◌, ◌↔◌, List, Err, IfErr, IfNone, IfOk, IfSome, IsOk, MatchBool};
-ghost use Rattle.std.specs.Prelude.{MatchResult, OnErr, OnOk, Some, length, nat_lt, take};
+ghost use Rattle.std.specs.Prelude.{MatchResult, OnErr, OnOk, Some, length, nat_lt, take, true};
 ghost use Rattle.std.specs.Arc.{arc_value};
 ghost use Rattle.std.specs.List.{list_all, list_any};
 ghost use mathlib.Core.List.{IsPrefix};
@@ -111,7 +111,8 @@ impl Window {
     /// the other has: they see one list.
     pub fn covers(&self, other: &Window) -> bool
         requires { other.now.book ≡ self.now.book }
-        ensures { MatchBool result (IsPrefix other.now.seen self.now.seen) (IsPrefix self.now.seen other.now.seen) }
+        ensures one { MatchBool result (IsPrefix other.now.seen self.now.seen) (IsPrefix self.now.seen other.now.seen) }
+        ensures all { IsPrefix other.now.seen self.now.seen → result ≡ true }
     {
         self.sight.covers(&other.sight)
     }

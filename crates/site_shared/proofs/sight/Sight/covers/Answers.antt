@@ -2,11 +2,16 @@
 use Rattle.std.proofs.Common.{List, ap, subst, length, nat_le, refl}
 use mathlib.Core.List.{IsPrefix}
 use Rattle.review_ops.specs.Operation.{Operation}
-use Rattle.site_shared.proofs.Prefixes.{prefix_either}
+use Rattle.site_shared.proofs.Prefixes.{prefix_covers, prefix_either}
 use Rattle.site_shared.proofs.sight.Sight.covers.Goals as goal
 
-pub returns : goal.returns
-returns c =
+pub returns-clause-all : goal.returns-clause-all
+returns-clause-all c =
+    rw (c.args.other.now.counted, c.args.self.now.counted)
+    (λ begins. prefix_covers c.args.other.now.seen.log c.args.self.now.seen.log begins _ refl)
+
+pub returns-clause-one : goal.returns-clause-one
+returns-clause-one c =
     let mine = c.args.self.now.seen.log in
     let its = c.args.other.now.seen.log in
     let both = c.learn.new.self.log in
