@@ -1,9 +1,10 @@
 -- The session that is answered at a place is the one that was found there.
-use Rattle.std.proofs.Common.{◌≡◌, ◌≢◌, ◌<◌, ◌≤◌, Bool, true, ltb, ℕ, List, length, get_or, slice_get, slice_set, Option, None, Some, ap, refl, sym, ◌∙◌}
+use Rattle.std.proofs.Common.{◌≡◌, ◌≢◌, ◌<◌, ◌≤◌, true, ltb, ℕ, List, length, get_or, slice_get, slice_set, Option, None, Some, ap, refl, sym, ◌∙◌}
 use Rattle.std.proofs.Common.{arith, subst}
 use Rattle.site_serve.specs.Answered.{GoesOnWith, IsSeatAfter}
 use Rattle.site_serve.specs.declared.jobs.Work.{Work}
 use Rattle.site_serve.specs.declared.jobs.Work.TheVariants.{Admitted, Barred, Entered, KeyLookedAt, Left, Looked}
+use Rattle.site_serve.specs.declared.session.Session.{Session}
 use Rattle.std.proofs.lemmas.Bool.{ltb-true}
 use Rattle.std.proofs.lemmas.List.{get_or-set_other, get_or-set_same, length-set}
 use Rattle.std.proofs.lemmas.Option.{gets, slice_get-get_or, slice_get_past}
@@ -55,35 +56,35 @@ seated_own seats place before now one Ok Err is value has own =
     is value has own in
     (left.2.0, left.1 ∙ ap Some left.2.1, left.2.2, left.2.3)
 
+-- that it is looked at in the next turn changes nothing of what a session was answered
+pub listed_outbox : {J : Type 0} (after last : Session J) → last ≡ record after { is_listed = true }
+    → last.outbox ≡ after.outbox
+listed_outbox {J = J} after last is = ap (λ (s : Session J). s.outbox) is
+
 -- who doesn't leave goes on with the work at its place
-moved : (work : Work) (old new last : List ℕ) (ends ending : Bool) → last ≡ new → ending ≡ ends
-    → GoesOnWith work old new ends → GoesOnWith work old last ending
-moved work old new last ends ending same ended goes =
-    subst (λ l. GoesOnWith work old l ending) (sym same) (subst (λ e. GoesOnWith work old new e) (sym ended) goes)
+listed : {J : Type 0} (work : Work) (before after last : Session J) → last ≡ record after { is_listed = true }
+    → GoesOnWith work before (record after { is_listed = true }) → GoesOnWith work before last
+listed work before after last is goes = subst (λ s. GoesOnWith work before s) (sym is) goes
 
-seat_after : {S : Type 0} (outbox_of : S → List ℕ) (ends : S → Bool) (work : Work) (before after last : S) → work ≢ Left
-    → GoesOnWith work (outbox_of before) (outbox_of after) (ends after) → outbox_of last ≡ outbox_of after
-    → ends last ≡ ends after → IsSeatAfter outbox_of ends work before (Some last)
-seat_after outbox_of ends (Looked text answered) before after last stays goes outbox ending =
-    (last, refl, moved (Looked text answered) _ _ _ _ _ outbox ending goes)
-seat_after outbox_of ends (Admitted admitted) before after last stays goes outbox ending =
-    (last, refl, moved (Admitted admitted) _ _ _ _ _ outbox ending goes)
-seat_after outbox_of ends (Barred answer) before after last stays goes outbox ending =
-    (last, refl, moved (Barred answer) _ _ _ _ _ outbox ending goes)
-seat_after outbox_of ends (KeyLookedAt role) before after last stays goes outbox ending =
-    (last, refl, moved (KeyLookedAt role) _ _ _ _ _ outbox ending goes)
-seat_after outbox_of ends Entered before after last stays goes outbox ending =
-    (last, refl, moved Entered _ _ _ _ _ outbox ending goes)
-seat_after outbox_of ends Left before after last stays goes outbox ending = absurd (stays refl)
+seat_after : {J : Type 0} (work : Work) (before after last : Session J) → work ≢ Left → GoesOnWith work before after
+    → last ≡ record after { is_listed = true } → IsSeatAfter work before (Some last)
+seat_after (Looked text answered) before after last stays goes is =
+    (last, refl, listed (Looked text answered) before after last is goes)
+seat_after (Admitted admitted) before after last stays goes is =
+    (last, refl, listed (Admitted admitted) before after last is goes)
+seat_after (Barred answer) before after last stays goes is =
+    (last, refl, listed (Barred answer) before after last is goes)
+seat_after (KeyLookedAt role) before after last stays goes is =
+    (last, refl, listed (KeyLookedAt role) before after last is goes)
+seat_after Entered before after last stays goes is = (last, refl, listed Entered before after last is goes)
+seat_after Left before after last stays goes is = absurd (stays refl)
 
-pub seat_goes_on : {S : Type 0} (outbox_of : S → List ℕ) (ends : S → Bool) (work : Work) (seat : Option S)
-    (one mine after last : S) → seat ≡ Some one → seat ≡ Some mine → work ≢ Left
-    → GoesOnWith work (outbox_of mine) (outbox_of after) (ends after) → outbox_of last ≡ outbox_of after
-    → ends last ≡ ends after → IsSeatAfter outbox_of ends work one (Some last)
-seat_goes_on outbox_of ends work seat one mine after last is own stays goes outbox ending =
-    seat_after outbox_of ends work one after last stays
-    (subst (λ s. GoesOnWith work (outbox_of s) (outbox_of after) (ends after)) (same_one seat one mine is own) goes)
-    outbox ending
+pub seat_goes_on : {J : Type 0} (work : Work) (seat : Option (Session J)) (one mine after last : Session J)
+    → seat ≡ Some one → seat ≡ Some mine → work ≢ Left → GoesOnWith work mine after
+    → last ≡ record after { is_listed = true } → IsSeatAfter work one (Some last)
+seat_goes_on work seat one mine after last is own stays goes same =
+    seat_after work one after last stays
+    (subst (λ s. GoesOnWith work s after) (same_one seat one mine is own) goes) same
 
 -- the others stay as they are
 pub others_stay : {X : Type 0} (seats : List X) (place other : ℕ) (now : X) → other ≢ place

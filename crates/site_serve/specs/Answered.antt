@@ -1,16 +1,25 @@
 -- What a session is answered of what the desk did for it.
-use Rattle.std.specs.Prelude.{◌≡◌, ◌≢◌, ◌⊎◌, ◌∷◌, ◌++◌, [], ℕ, IfSome, List, Bool, true, Ok, Err, None, Option, Some, Result}
-use Rattle.std.specs.Prelude.{slice_get}
+use Rattle.std.specs.Prelude.{◌≡◌, ◌≢◌, ◌⊎◌, ◌↔◌, ◌∷◌, ◌++◌, [], ℕ, IfSome, IsTrue, List, Bool, false, true, Ok, Err, None, Option, Some, Result}
+use Rattle.std.specs.Prelude.{is_some, slice_get}
+use Rattle.std.specs.Option.{option_or}
 use Rattle.gossip_line.specs.Texts.{refusal_line, stamp_line}
 use Rattle.gossip_line.specs.declared.fault.LineFault.{LineFault}
+use Rattle.key_file.specs.declared.key.Role.{Role}
+use Rattle.key_file.specs.declared.key.Role.TheVariants.{Feed}
 use Rattle.review_ops.specs.Timestamp.{Timestamp}
+use Rattle.sealed_link.specs.Wires.{Wiring}
 use Rattle.site_serve.specs.Outboxes.{Adds}
+use Rattle.site_serve.specs.Rights.{IsSameAccess, IsSameRight}
 use Rattle.site_serve.specs.declared.ask.Asker.{Asker}
-use Rattle.site_serve.specs.declared.ask.Asker.TheVariants.{Puller, Session}
+use Rattle.site_serve.specs.declared.ask.Asker.TheVariants as asker
+use Rattle.site_serve.specs.declared.channel.ChannelMode.TheVariants.{Sealed, Shut}
 use Rattle.site_serve.specs.declared.desk.Waiter.{Waiter}
 use Rattle.site_serve.specs.SitePorts.{port_fault_of}
 use Rattle.site_serve.specs.declared.jobs.Work.{Work}
 use Rattle.site_serve.specs.declared.jobs.Work.TheVariants.{Admitted, Barred, Entered, KeyLookedAt, Left, Looked}
+use Rattle.site_serve.specs.declared.session.Session.{Session}
+use Rattle.site_serve.specs.declared.session_fault.SessionFault.{SessionFault}
+use Rattle.site_serve.specs.declared.session_fault.SessionFault.TheVariants.{Line}
 use Rattle.site_shared.specs.declared.fault.DeskFault.{DeskFault}
 use Rattle.site_shared.specs.declared.fault.DeskFault.TheVariants.{NoMemory}
 
@@ -27,22 +36,57 @@ abbrev pub SaysHeld : Result (Option Timestamp) DeskFault → List ℕ → List 
 SaysHeld (Ok stamp) old new = SaysStamp stamp old new ⊎ SaysFault (NoMemory 0) old new
 SaysHeld (Err fault) old new = SaysFault fault old new
 
--- what a session is answered, and whether it ends, where a worker's work is done and it doesn't leave: a look's text is
--- added, or memory is refused for it and the session ends; where it is or isn't let in, what it was answered may be
--- given up; it ends where its key is no more
-abbrev pub GoesOnWith : Work → List ℕ → List ℕ → Bool → Type 0
-GoesOnWith (Looked text answered) old new ends = (new ≡ old ++ text.items) ⊎ ((new ≡ old) × (ends ≡ true))
-GoesOnWith (Admitted admitted) old new ends = (new ≡ old) ⊎ (new ≡ [])
-GoesOnWith (Barred answer) old new ends = (new ≡ old) ⊎ (new ≡ [])
-GoesOnWith (KeyLookedAt role) old new ends = (new ≡ old) × (role ≡ None → ends ≡ true)
-GoesOnWith Entered old new ends = new ≡ old
-GoesOnWith Left old new ends = new ≡ old
+-- how a session ends once it was answered so: as it was to end before, or by this answer, where that ends it
+abbrev pub ending_after : Result Bool LineFault → Option (Result (Unit {0}) SessionFault) → Option (Result (Unit {0}) SessionFault)
+ending_after (Ok true) ending = ending
+ending_after (Ok false) ending = option_or ending (Some (Ok tt))
+ending_after (Err fault) ending = option_or ending (Some (Err (Line fault)))
+
+-- a look's text is added, and the session goes on or ends by that; or memory is refused for the text, and it ends
+abbrev pub TakesText : {J : Type 0} → List ℕ → Result Bool LineFault → Session J → Session J → Type 0
+TakesText text answered old new =
+    ((new.outbox ≡ old.outbox ++ text) × (new.ending ≡ ending_after answered old.ending))
+    ⊎ ((new.outbox ≡ old.outbox) × (is_some new.ending ≡ true))
+
+-- the bytes of a session are sealed from now on; or memory is refused for the answer to that, and it ends, and nothing
+-- more is sent
+abbrev pub IsSealedBy : {J : Type 0} → Wiring → Session J → Session J → Type 0
+IsSealedBy wire old new =
+    ((new.channel.mode ≡ Sealed wire) × (new.outbox ≡ old.outbox))
+    ⊎ ((new.channel.mode ≡ Shut) × (new.outbox ≡ []) × (is_some new.ending ≡ true))
+
+-- a session is let in: its bytes are sealed from now on, and it may have bodies taken in where its key may feed
+abbrev pub IsLetIn : {J : Type 0} → Role → Wiring → Session J → Session J → Type 0
+IsLetIn role wire old new =
+    IsSameRight (record old { may_take = new.may_take; key_seen = new.key_seen }) new
+    × (IsTrue new.may_take ↔ role ≡ Feed) × IsSealedBy wire old new
+
+-- a session isn't let in: it ends, and its bytes go through what they went through, or nothing more is sent
+abbrev pub IsKeptOut : {J : Type 0} → Session J → Session J → Type 0
+IsKeptOut old new =
+    IsSameRight old new × (is_some new.ending ≡ true)
+    × (((new.channel.mode ≡ old.channel.mode) × (new.outbox ≡ old.outbox))
+    ⊎ ((new.channel.mode ≡ Shut) × (new.outbox ≡ [])))
+
+-- a session has the role that its key is found to have, and ends where the key is no more
+abbrev pub HasRole : {J : Type 0} → Option Role → Session J → Session J → Type 0
+HasRole role old new =
+    IsSameAccess (record old { may_take = new.may_take; key_seen = new.key_seen }) new × (new.outbox ≡ old.outbox)
+    × (IsTrue new.may_take ↔ role ≡ Some Feed) × (role ≡ None → is_some new.ending ≡ true)
+
+-- what becomes of a session where a worker's work is done and it doesn't leave
+abbrev pub GoesOnWith : {J : Type 0} → Work → Session J → Session J → Type 0
+GoesOnWith (Looked text answered) old new = IsSameAccess old new × TakesText text.items answered old new
+GoesOnWith (Admitted admitted) old new = IsLetIn admitted.role admitted.wire old new
+GoesOnWith (Barred answer) old new = IsKeptOut old new
+GoesOnWith (KeyLookedAt role) old new = HasRole role old new
+GoesOnWith Entered old new = IsSameAccess old new × (new.outbox ≡ old.outbox)
+GoesOnWith Left old new = IsSameAccess old new × (new.outbox ≡ old.outbox)
 
 -- what is at its place then: nothing where it leaves, else the session, which goes on with the work
-abbrev pub IsSeatAfter : {S : Type 0} → (S → List ℕ) → (S → Bool) → Work → S → Option S → Type 0
-IsSeatAfter outbox_of ends Left session seat = seat ≡ None
-IsSeatAfter outbox_of ends work session seat =
-    (after : _) × (seat ≡ Some after) × GoesOnWith work (outbox_of session) (outbox_of after) (ends after)
+abbrev pub IsSeatAfter : {J : Type 0} → Work → Session J → Option (Session J) → Type 0
+IsSeatAfter Left session seat = seat ≡ None
+IsSeatAfter work session seat = (after : _) × (seat ≡ Some after) × GoesOnWith work session after
 
 module _ {S : Type 0} (number_of : S → ℕ) (outbox_of : S → List ℕ) where
   -- of the sessions at their places the one of this number at this place is answered, if it is still there, and no
@@ -56,8 +100,8 @@ module _ {S : Type 0} (number_of : S → ℕ) (outbox_of : S → List ℕ) where
 
   -- who asked is answered: a session at its place, or a thread that pulls, by its channel
   abbrev pub IsAskerAnswered : Asker → (List ℕ → List ℕ → Type 0) → List (Option S) → List (Option S) → Type 0
-  IsAskerAnswered (Session place number) Says old new = IsSeatAnswered place number Says old new
-  IsAskerAnswered (Puller puller) Says old new = new ≡ old
+  IsAskerAnswered (asker.Session place number) Says old new = IsSeatAnswered place number Says old new
+  IsAskerAnswered (asker.Puller puller) Says old new = new ≡ old
 
   -- one after the other is answered what was held for it
   abbrev pub EachIsAnswered : List Waiter → List (Option S) → List (Option S) → Type 0

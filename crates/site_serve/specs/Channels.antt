@@ -1,6 +1,6 @@
 -- What the bytes of a connection go through before they are lines of its session, and what is sent of the answers to
 -- these: nothing, or a seal.
-use Rattle.std.specs.Prelude.{◌≡◌, ℕ, List, [], ◌∷◌, ◌++◌, None, Some, Result, Ok, Err, drop}
+use Rattle.std.specs.Prelude.{◌≡◌, ◌⊎◌, ℕ, List, [], ◌∷◌, ◌++◌, None, Some, Result, Ok, Err, drop}
 use Rattle.gossip_line.specs.declared.fault.LineFault.TheVariants.{NoMemory}
 use Rattle.line_reader.specs.Lines.{HasNoLf}
 use Rattle.sealed_link.specs.Lines.{IsHeldUp, OpensCame, SealsFront, SendsSealed}
@@ -34,6 +34,12 @@ TakesCame (Sealed w) came old new result after =
     × ((fault : WireFault) → w.fault ≡ Some fault
     → (new ≡ old) × (opened ≡ w) × (result ≡ Err (seal_fault fault)))
 TakesCame Shut came old new result after = (new ≡ old) × (after ≡ Shut)
+
+-- nothing came, or something that is taken so
+abbrev pub ReadsOn : ChannelMode → List ℕ → ChannelMode → List ℕ → Type 0
+ReadsOn mode old after new =
+    ((new ≡ old) × (after ≡ mode))
+    ⊎ ((came : List ℕ) × (result : Result (Unit {0}) SessionFault) × TakesCame mode came old new result after)
 
 -- what is sent next where the session was answered this: what is sent as it is, before all else; then the answers, or
 -- the lines that they were sealed to

@@ -1,5 +1,7 @@
 -- What a line of a session does: it is answered at once, or its session waits for the next publish or for a worker.
-use Rattle.std.specs.Prelude.{◌≡◌, ◌⊎◌, Bool, false, true, List, ℕ, Ok, Result}
+use Rattle.std.specs.Prelude.{◌≡◌, ◌⊎◌, ◌+◌, ◌≤◌, Bool, false, true, List, ℕ, suc, zero, None, Ok, Result, drop, nat_eq, take}
+use Rattle.std.specs.Duration.{as_nanos}
+use Rattle.byte_ends.specs.Lines.{without_cr}
 use Rattle.gossip_line.specs.Answers.{Asks}
 use Rattle.gossip_line.specs.Steps.{IsStep, answer_of}
 use Rattle.gossip_line.specs.Texts.{answer_text, next_of, no_memory_line, not_allowed}
@@ -7,12 +9,17 @@ use Rattle.gossip_line.specs.declared.fault.LineFault.{LineFault}
 use Rattle.gossip_line.specs.declared.step.Look.{Look}
 use Rattle.gossip_line.specs.declared.step.Saying.{Saying}
 use Rattle.gossip_line.specs.declared.step.Step.TheVariants as step
+use Rattle.line_reader.specs.Lines.{HasFirstLf}
 use Rattle.review_ops.specs.Deed.{Deed}
 use Rattle.site_port.specs.Ports.{takes_in}
-use Rattle.site_serve.specs.Acknowledged.{AddsOne, HoldsBody}
-use Rattle.site_serve.specs.Outboxes.{Adds}
+use Rattle.site_serve.specs.Acknowledged.{AddsOne, Group, HoldsBody}
+use Rattle.site_serve.specs.Channels.{ReadsOn}
+use Rattle.site_serve.specs.LookedAtKeys.{due_key}
+use Rattle.site_serve.specs.Outboxes.{Adds, MaySayLong}
+use Rattle.site_serve.specs.Rights.{HasHadLine, IsSameRight}
 use Rattle.site_serve.specs.declared.ask.Asker.{Asker}
 use Rattle.site_serve.specs.declared.desk.Waiter.{Waiter}
+use Rattle.site_serve.specs.declared.session.Session.{Session}
 use Rattle.site_shared.specs.Accounts.{Account}
 
 -- what a line finds and leaves: what its session was answered and isn't sent yet, who waits for the next publish, and
@@ -61,3 +68,38 @@ LooksLine first line old new =
 abbrev pub DoesLine : Bool → Bool → List ℕ → Asker → Scene → Scene → Type 0
 DoesLine may_take first line asker old new =
     SaysLine first line old new ⊎ (TakesLine may_take first line asker old new ⊎ LooksLine first line old new)
+
+-- the first line of what was read of a session is done, once: the session goes on after it, and has had one line more
+abbrev pub DoesNext : {J : Type 0} → Asker → Session J → Session J → Scene → Scene → Type 0
+DoesNext asker old new before after =
+    (size : ℕ) × HasFirstLf old.inbox size × (new.inbox ≡ drop (size + 1) old.inbox) × HasHadLine old new
+    × DoesLine old.may_take (nat_eq old.lines 0) (without_cr (take size old.inbox)) asker before after
+
+-- no line of a session is done: more of it may be read, and it may ask to be let in by a key, or be answered that a line
+-- is too long
+abbrev pub DoesNone : {J : Type 0} → Session J → Session J → Scene → Scene → Type 0
+DoesNone old new before after =
+    IsSameRight (record old { key = new.key }) new × ReadsOn old.channel.mode old.inbox new.channel.mode new.inbox
+    × MaySayLong before.answers after.answers × IsLeft before after
+
+-- the next line of a session is done, whose key hasn't to be looked at before; or none is
+abbrev pub DoesOne : {J : Type 0} → Asker → ℕ → Session J → Session J → Scene → Scene → Type 0
+DoesOne asker now old new before after =
+    ((due_key old.key (as_nanos old.key_seen) now ≡ None) × DoesNext asker old new before after)
+    ⊎ DoesNone old new before after
+
+-- what lines find and leave of what a session is answered and of who waits at the desk
+abbrev pub scene_of : {K : Type 0} → List ℕ → Group K → Scene
+scene_of answers group = record { answers = answers; waiters = group.waiters; account = group.entries.account }
+
+module _ {J K : Type 0} (asker : Asker) (now : ℕ) where
+  -- so many times, one after the other, the next line of a session is done, or none is
+  abbrev pub DoesSteps : ℕ → Session J → Session J → Group K → Group K → Type 0
+  DoesSteps zero old new before after = (new ≡ old) × (after ≡ before)
+  DoesSteps (suc count) old new before after =
+      (mid : Session J) × (between : Group K) × DoesSteps count old mid before between
+      × DoesOne asker now mid new (scene_of mid.outbox between) (scene_of new.outbox after)
+
+  -- the same, so many times at most
+  abbrev pub DoesLines : ℕ → Session J → Session J → Group K → Group K → Type 0
+  DoesLines most old new before after = (count : ℕ) × (count ≤ most) × DoesSteps count old new before after

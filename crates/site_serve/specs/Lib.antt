@@ -4,6 +4,7 @@ pub mod Reports
 pub mod Fault
 pub mod Inboxes
 pub mod Outboxes
+pub mod Rights
 pub mod Doing
 pub mod LookedAtKeys
 pub mod Looks
@@ -14,3 +15,4 @@ pub mod InForce
 pub mod SessionFaults
 pub mod Channels
 pub mod Openings
+pub mod Options

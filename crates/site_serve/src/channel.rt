@@ -1,10 +1,10 @@
 //! What the bytes of a connection go through before they are lines of its session: nothing, or a seal.
 
-ghost use Rattle.std.specs.Prelude.{◌≡◌, ◌≤◌, ◌++◌, [], Err, MatchResult, Ok, OnOk, length};
+ghost use Rattle.std.specs.Prelude.{◌≡◌, ◌≤◌, ◌++◌, [], Err, MatchResult, Ok, OnOk, if◌then◌else◌, length};
 ghost use Rattle.gossip_line.specs.declared.fault.LineFault.TheVariants.{NoMemory};
 ghost use Rattle.site_serve.specs.Channels.{IsSent, SealsMore, TakesCame, outgoing_of, seal_fault, seal_result};
 ghost use Rattle.site_serve.specs.Channels.{sends_of};
-ghost use Rattle.site_serve.specs.declared.channel.ChannelMode.TheVariants.{Sealed, Shut};
+ghost use Rattle.site_serve.specs.declared.channel.ChannelMode.TheVariants.{Locked, Plain, Sealed, Shut};
 ghost use Rattle.site_serve.specs.declared.session_fault.SessionFault.TheVariants.{Line};
 
 use super::inbox::Inbox;
@@ -55,14 +55,12 @@ pub(super) struct Channel {
 
 impl Channel {
     /// A connection of a session that anybody may have, or one that has to be let in by a key.
-    pub(super) fn new(alloc: Global, is_locked: bool) -> Channel {
-        let mode = if is_locked {
-            ChannelMode::Locked
-        } else {
-            ChannelMode::Plain
-        };
+    pub(super) fn new(alloc: Global, is_locked: bool) -> Channel
+        ensures mode { result.mode ≡ (if is_locked then Locked else Plain) }
+        ensures first { result.first ≡ [] }
+    {
         Channel {
-            mode,
+            mode: first_mode(is_locked),
             greeting: Vec::new(alloc),
             first: Outbox::new(alloc),
         }
@@ -171,6 +169,17 @@ impl Channel {
             _ => true,
         };
         self.first.len() == 0 && is_sealed_sent
+    }
+}
+
+/// How the bytes of a connection become lines at first.
+fn first_mode(is_locked: bool) -> ChannelMode
+    ensures { result ≡ (if is_locked then Locked else Plain) }
+{
+    if is_locked {
+        ChannelMode::Locked
+    } else {
+        ChannelMode::Plain
     }
 }
 

@@ -1,6 +1,6 @@
 //! What a site gives back once it has ended.
 
-ghost use Rattle.std.specs.Prelude.{◌≡◌, IfOk, List};
+ghost use Rattle.std.specs.Prelude.{◌≡◌, Err, IfErr, IfOk, List, OnOk};
 ghost use Rattle.std.specs.Arc.{arc_value};
 ghost use Rattle.review_ops.specs.Operation.{Operation};
 ghost use Rattle.site_serve.specs.Openings.{HasKept};
@@ -43,12 +43,19 @@ pub fn unserved<K: Keeps>(keeper: K, fault: ServeFault) -> Closed<K>
 
 /// What a site leaves that its threads left so, and that showed this record last.
 pub fn served_of(left: Result<Left, ServeFault>, shown: Arc<Replica>) -> Result<Served, ServeFault>
-    ensures { IfOk result (λ served. served.replica ≡ arc_value shown) }
+    ensures shown { IfOk result (λ served. served.replica ≡ arc_value shown) }
+    ensures ended { IfOk result (λ served. IfOk left
+        (λ ended. (served.written ≡ ended.written) × (served.is_start_taken ≡ ended.is_start_taken))) }
+    ensures err { IfErr left (λ fault. result ≡ Err fault) }
+    ensures memory { OnOk left (IfErr result (λ fault. fault ≡ ServeFault.NoMemory)) }
 {
     let Left {
         written,
         is_start_taken,
-    } = left?;
+    } = match left {
+        Ok(left) => left,
+        Err(fault) => return Err(fault),
+    };
     match unshared(shown) {
         Ok(replica) => Ok(Served {
             replica,

@@ -134,7 +134,7 @@ where
         pulling
             .metrics
             .note_pull(rt, peer.place, condition == Condition::Well);
-        if port.sink.is_start_taken() {
+        if port.sink().is_start_taken() {
             pulling.stop.ask(rt);
         }
         if pulling.stop.is_asked() {
@@ -274,9 +274,9 @@ fn pulled<R: Wait, T: KeyReader, J: Naming, S: Source, D: Drain>(
     drain: &mut D,
     port: &mut Guarded<'_, PullPort<'_, R, J>>,
 ) -> Condition {
-    port.sink.begin();
+    let before = port.sink().brought();
     match pull_run(pulling.alloc, source, drain, port) {
-        Ok(pulled) if pulled.more && !port.sink.has_brought() => Condition::Endless,
+        Ok(pulled) if pulled.more && port.sink().brought() == before => Condition::Endless,
         Ok(_) => Condition::Well,
         Err(fault) => Condition::Failed(fault),
     }

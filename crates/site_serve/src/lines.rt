@@ -1,6 +1,6 @@
 //! Does the lines of a session.
 
-ghost use Rattle.std.specs.Prelude.{◌≡◌, ◌⊎◌, ◌<◌, ◌+◌, Bool, IfOk, IsSome, MatchBool, Ok, Result, drop, length, nat_eq, take, true};
+ghost use Rattle.std.specs.Prelude.{◌≡◌, ◌⊎◌, ◌<◌, ◌+◌, Bool, IfOk, IsSome, MatchBool, Ok, Result, drop, false, length, nat_eq, take, true};
 ghost use Rattle.std.specs.Arc.{arc_value};
 ghost use Rattle.std.specs.Duration.{as_nanos};
 ghost use Rattle.std.specs.Option.{option_map};
@@ -9,10 +9,12 @@ ghost use Rattle.gossip_line.specs.Texts.{no_memory_line};
 ghost use Rattle.gossip_line.specs.declared.fault.LineFault.{LineFault};
 ghost use Rattle.line_reader.specs.Lines.{HasFirstLf};
 ghost use Rattle.site_serve.specs.Acknowledged.{AddsOwn, session_at};
+ghost use Rattle.site_serve.specs.Channels.{ReadsOn};
 ghost use Rattle.site_serve.specs.LookedAtKeys.{due_key};
-ghost use Rattle.site_serve.specs.Outboxes.{Adds};
+ghost use Rattle.site_serve.specs.Outboxes.{Adds, MaySayLong};
+ghost use Rattle.site_serve.specs.Rights.{HasHadLine, IsSameAccess, IsSameRight};
 ghost use Rattle.review_ops.specs.Draft.{deed_of};
-ghost use Rattle.site_serve.specs.Doing.{DoesBody, DoesLine};
+ghost use Rattle.site_serve.specs.Doing.{DoesBody, DoesLine, DoesLines, DoesOne};
 ghost use Rattle.site_serve.specs.declared.jobs.Task.TheVariants as task;
 
 use super::ask::{Ask, Asker};
@@ -53,6 +55,7 @@ pub(super) struct LineContext<'a, J: Naming> {
 
 /// Does the lines of a session that are there, so many in a turn at most. Who asks to take in a body waits for the
 /// publish.
+#[tactic(auto, using(crate::proofs::Waiting::steps_within))]
 pub(super) fn do_lines<R: Wait, J: Opening, K: Keeps>(
     rt: &R,
     context: &LineContext<'_, J>,
@@ -65,8 +68,12 @@ pub(super) fn do_lines<R: Wait, J: Opening, K: Keeps>(
 
     // Nothing is answered before what was asked earlier is.
     ensures order { 0 < session.old.waiting → session.new.outbox ≡ session.old.outbox }
+
+    // One line after the other is done, each just once, and nothing else: none is left out.
+    ensures lines { DoesLines (session_at context.now.place context.now.number) (as_nanos context.now.moment) 64
+        session.old session.new group.old group.new }
 {
-    for _line in 0..LINES_A_TURN {
+    for _ in 0..LINES_A_TURN {
         if !session.is_open() || !group.has_room() {
             return;
         }
@@ -78,7 +85,7 @@ pub(super) fn do_lines<R: Wait, J: Opening, K: Keeps>(
 
 /// Does the next line of a session, or reads on where none is there: false where it has to wait. No line is done before
 /// the session's key is looked at, where that is due.
-#[tactic(auto, using(crate::proofs::Waiting::none_own))]
+#[tactic(auto, using(crate::proofs::Waiting::none_own, crate::proofs::Waiting::none_does, crate::proofs::Waiting::one_does, crate::proofs::Rights::reads_nothing))]
 fn do_next<R: Wait, J: Opening, K: Keeps>(
     rt: &R,
     context: &LineContext<'_, J>,
@@ -92,6 +99,12 @@ fn do_next<R: Wait, J: Opening, K: Keeps>(
     ensures key { IsSome (due_key session.old.key (as_nanos session.old.key_seen) (as_nanos context.now.moment))
         → group.new ≡ group.old }
     ensures waits { 0 < session.old.waiting → 0 < session.new.waiting }
+
+    // The next line is done, just once, or none is: none is left out, and nothing is done that no line asks for.
+    ensures one { DoesOne (session_at context.now.place context.now.number) (as_nanos context.now.moment)
+        session.old session.new
+        (record { answers = session.old.outbox; waiters = group.old.waiters; account = group.old.entries.account })
+        (record { answers = session.new.outbox; waiters = group.new.waiters; account = group.new.entries.account }) }
 {
     let Some(size) = session.inbox.next_line() else {
         return read_on(rt, context, buffer, session);
@@ -112,13 +125,16 @@ fn look_at_key<R: Wait, J: Naming>(
     session: &mut Session<J>,
     key: KeyId,
 )
-    ensures { (session.new.outbox ≡ session.old.outbox) × (session.new.waiting ≡ session.old.waiting) }
+    ensures kept { (session.new.outbox ≡ session.old.outbox) × (session.new.waiting ≡ session.old.waiting) }
+    ensures inbox { session.new.inbox ≡ session.old.inbox }
+    ensures access { IsSameAccess session.old session.new }
 {
     session.go_away();
     send_task(rt, context, Task::LookAtKey(key));
 }
 
 /// Reads on, where no line is there. Whether something came.
+#[tactic(auto, using(crate::proofs::Rights::reads_nothing))]
 fn read_on<R: Wait, J: Naming>(
     rt: &R,
     context: &LineContext<'_, J>,
@@ -127,15 +143,16 @@ fn read_on<R: Wait, J: Naming>(
 ) -> bool
     ensures order { 0 < session.old.waiting → session.new.outbox ≡ session.old.outbox }
     ensures waits { session.new.waiting ≡ session.old.waiting }
+    ensures says { MaySayLong session.old.outbox session.new.outbox }
+    ensures came { ReadsOn session.old.channel.mode session.old.inbox session.new.channel.mode session.new.inbox }
+    ensures right { IsSameRight (record session.old { key = session.new.key }) session.new }
 {
     if session.is_spent() {
         session.end_spent();
         return false;
     }
     if session.inbox.is_too_long() {
-        if !session.is_waiting() {
-            session.say_too_long(context.alloc);
-        }
+        say_too_long(context, session);
         return false;
     }
     match session.credential() {
@@ -147,6 +164,20 @@ fn read_on<R: Wait, J: Naming>(
     }
 }
 
+/// Answers that a line is too long, once nothing that was asked before it waits for its answer.
+fn say_too_long<J: Naming>(context: &LineContext<'_, J>, session: &mut Session<J>)
+    ensures says { MaySayLong session.old.outbox session.new.outbox }
+    ensures order { 0 < session.old.waiting → session.new.outbox ≡ session.old.outbox }
+    ensures waits { session.new.waiting ≡ session.old.waiting }
+    ensures inbox { session.new.inbox ≡ session.old.inbox }
+    ensures access { IsSameAccess session.old session.new }
+{
+    if session.is_waiting() {
+        return;
+    }
+    session.say_too_long(context.alloc);
+}
+
 /// Has a worker look whether a session is let in by what it asks that by.
 fn ask_for<R: Wait, J: Naming>(
     rt: &R,
@@ -154,7 +185,9 @@ fn ask_for<R: Wait, J: Naming>(
     session: &mut Session<J>,
     credential: Credential,
 )
-    ensures { (session.new.outbox ≡ session.old.outbox) × (session.new.waiting ≡ session.old.waiting) }
+    ensures kept { (session.new.outbox ≡ session.old.outbox) × (session.new.waiting ≡ session.old.waiting) }
+    ensures inbox { session.new.inbox ≡ session.old.inbox }
+    ensures access { IsSameAccess (record session.old { key = session.new.key }) session.new }
 {
     session.ask_by(credential);
     send_task(rt, context, Task::Admit(credential));
@@ -172,7 +205,7 @@ fn send_task<R: Wait, J: Naming>(rt: &R, context: &LineContext<'_, J>, task: Tas
 }
 
 /// Does a line of a session: false where it has to wait, or the session ends at it.
-#[tactic(auto, using(crate::proofs::Waiting::none_own, crate::proofs::Waiting::says_does, crate::proofs::Waiting::takes_does, crate::proofs::Waiting::looks_does))]
+#[tactic(auto, using(crate::proofs::Waiting::none_own, crate::proofs::Waiting::says_does, crate::proofs::Waiting::takes_does, crate::proofs::Waiting::looks_does, crate::proofs::Rights::had_after))]
 fn do_line<R: Wait, J: Opening, K: Keeps>(
     rt: &R,
     context: &LineContext<'_, J>,
@@ -192,6 +225,8 @@ fn do_line<R: Wait, J: Opening, K: Keeps>(
         (record { answers = session.new.outbox; waiters = group.new.waiters; account = group.new.entries.account }))
         ((session.new.inbox ≡ session.old.inbox) × (group.new.waiters ≡ group.old.waiters)
         × (group.new.entries.account ≡ group.old.entries.account)) }
+    ensures had { MatchBool result (HasHadLine session.old session.new) (IsSameAccess session.old session.new) }
+    ensures none { result ≡ false → MaySayLong session.old.outbox session.new.outbox }
     ensures own { AddsOwn (session_at context.now.place context.now.number) group.old.waiters group.new.waiters }
     ensures order { 0 < session.old.waiting → session.new.outbox ≡ session.old.outbox }
     ensures waits { 0 < session.old.waiting → 0 < session.new.waiting }
@@ -201,9 +236,7 @@ fn do_line<R: Wait, J: Opening, K: Keeps>(
         return false;
     }
     if size > LINE_LIMIT {
-        if !session.is_waiting() {
-            session.say_too_long(context.alloc);
-        }
+        say_too_long(context, session);
         return false;
     }
     let line = session.inbox.line(size);
@@ -242,7 +275,7 @@ fn has_room_for<J: Naming>(context: &LineContext<'_, J>, look: &Look) -> bool {
 
 /// Has the body of the line of this size held, where the session may have bodies taken in, and goes on past that line:
 /// false where it has to wait.
-#[tactic(auto, using(crate::proofs::Waiting::none_own, crate::proofs::Waiting::one_own))]
+#[tactic(auto, using(crate::proofs::Waiting::none_own, crate::proofs::Waiting::one_own, crate::proofs::Rights::had_after))]
 fn take_body<J: Opening, K: Keeps>(
     context: &LineContext<'_, J>,
     session: &mut Session<J>,
@@ -259,6 +292,8 @@ fn take_body<J: Opening, K: Keeps>(
         (record { answers = session.new.outbox; waiters = group.new.waiters; account = group.new.entries.account }))
         ((session.new.inbox ≡ session.old.inbox) × (group.new.waiters ≡ group.old.waiters)
         × (group.new.entries.account ≡ group.old.entries.account)) }
+    ensures had { MatchBool result (HasHadLine session.old session.new) (IsSameAccess session.old session.new) }
+    ensures none { result ≡ false → MaySayLong session.old.outbox session.new.outbox }
     ensures own { AddsOwn (session_at context.now.place context.now.number) group.old.waiters group.new.waiters }
     ensures order { 0 < session.old.waiting → session.new.outbox ≡ session.old.outbox }
     ensures waits { 0 < session.old.waiting → 0 < session.new.waiting }
@@ -282,6 +317,7 @@ fn take_body<J: Opening, K: Keeps>(
 }
 
 /// Goes on past the line of this size, and has a worker look for the session as that line asks.
+#[tactic(auto, using(crate::proofs::Rights::had_before))]
 fn begin_look<R: Wait, J: Naming>(
     rt: &R,
     context: &LineContext<'_, J>,
@@ -293,6 +329,7 @@ fn begin_look<R: Wait, J: Naming>(
     ensures says { (session.new.outbox ≡ session.old.outbox)
         ⊎ ((result : Result Bool LineFault) × Adds no_memory_line (Ok true) session.old.outbox session.new.outbox result) }
     ensures inbox { session.new.inbox ≡ drop (size + 1) session.old.inbox }
+    ensures had { HasHadLine session.old session.new }
     ensures waits { session.new.waiting ≡ session.old.waiting }
 {
     session.pass(size);

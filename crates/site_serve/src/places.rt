@@ -1,6 +1,6 @@
 //! The sessions that are open, each at its place.
 
-ghost use Rattle.std.specs.Prelude.{◌≡◌, ◌≢◌, ℕ, IfErr, IfOk, Some, false, is_some, slice_get, true};
+ghost use Rattle.std.specs.Prelude.{◌≡◌, ◌≢◌, ℕ, IfErr, IfOk, Some, false, slice_get, true};
 ghost use Rattle.site_serve.specs.Answered.{GoesOnWith, IsSeatAfter, SaysFault, SaysStamp};
 
 use super::ask::Answer;
@@ -166,7 +166,7 @@ impl<J: Naming> Places<J> {
             → slice_get self.new.sessions.items reply.place ≡ Some (Some session) }
         ensures own { (session : _) → slice_get self.old.sessions.items reply.place ≡ Some (Some session)
             → session.number ≡ reply.session → (seat : _) × (slice_get self.new.sessions.items reply.place ≡ Some seat)
-            × IsSeatAfter (λ s. s.outbox) (λ s. is_some s.ending) reply.work session seat }
+            × IsSeatAfter reply.work session seat }
     {
         let Reply {
             place,
@@ -255,7 +255,7 @@ fn leaves_with<J: Naming>(
 ) -> bool
     ensures strangers { (session : _) → slot.old ≡ Some session → session.number ≢ number → slot.new ≡ Some session }
     ensures own { (session : _) → slot.old ≡ Some session → session.number ≡ number
-        → IsSeatAfter (λ s. s.outbox) (λ s. is_some s.ending) work session slot.new }
+        → IsSeatAfter work session slot.new }
 {
     let Some(session) = slot else {
         return false;
@@ -282,7 +282,7 @@ fn has_left(work: &Work) -> bool
 
 /// Has a session go on with what a worker has done for it.
 fn go_on<J: Naming>(session: &mut Session<J>, work: Work, now: Duration)
-    ensures { GoesOnWith work session.old.outbox session.new.outbox (is_some session.new.ending) }
+    ensures { GoesOnWith work session.old session.new }
 {
     match work {
         Work::Entered => session.come_back(),
@@ -320,12 +320,10 @@ fn answer_at<J: Naming>(
 
 /// Has a session looked at in the next turn. There is room for each place.
 fn enlist<J: Naming>(session: &mut Session<J>, listed: &mut Vec<usize>, place: usize)
-    ensures outbox { session.new.outbox ≡ session.old.outbox }
-    ensures ending { session.new.ending ≡ session.old.ending }
+    ensures { session.new ≡ record session.old { is_listed = true } }
 {
-    if session.is_listed {
-        return;
+    if !session.is_listed {
+        let _kept = listed.push(place);
     }
     session.is_listed = true;
-    let _kept = listed.push(place);
 }

@@ -1,14 +1,14 @@
 //! The site, as a session or a pull of it sees it.
 
-ghost use Rattle.std.specs.Prelude.{◌≡◌, ◌||◌, IfOk, OnOk, false, not, true};
-ghost use Rattle.std.specs.List.{list_all};
+ghost use Rattle.std.specs.Prelude.{◌≡◌, ◌⊎◌, ◌+◌, ◌%◌, ◌^◌, IfOk, OnErr, OnOk, false, true};
+ghost use Rattle.std.specs.List.{list_all, list_any};
 ghost use Rattle.std.specs.Option.{ForSome};
 ghost use Rattle.replica_core.specs.Journal.{has_stamp};
 ghost use Rattle.replica_core.specs.JournalLaws.{IsPartOf};
 ghost use Rattle.site_port.specs.Ports.{IsLookingFault};
 ghost use Rattle.site_serve.specs.InForce.{ruling_gate};
 ghost use Rattle.site_serve.specs.SitePorts.{HaveStamps, port_fault_of, stamps_of};
-ghost use Rattle.site_shared.specs.Accounts.{GoesOn};
+ghost use Rattle.site_shared.specs.Accounts.{GoesOn, is_foreign};
 ghost use Rattle.site_shared.specs.Publishes.{arrive};
 
 use super::ask::{Answer, Ask, Asker, DeskLink, Puller};
@@ -125,8 +125,8 @@ pub struct PullPort<'a, R: Wait, J: Naming> {
     window: OwnWindow<J>,
     desk_link: DeskLink<J>,
     is_start_taken: bool,
-    /// Whether the pull that is under way has brought an operation that wasn't there.
-    has_brought: bool,
+    /// How many times operations were handed over of which one wasn't there, modulo 2^64.
+    brought: u64,
 }
 
 impl<'a, R: Wait, J: Naming> PullPort<'a, R, J> {
@@ -145,28 +145,22 @@ impl<'a, R: Wait, J: Naming> PullPort<'a, R, J> {
             window,
             desk_link,
             is_start_taken: false,
-            has_brought: false,
+            brought: 0,
         }
     }
 
-    /// Begins a pull, which has brought nothing yet.
-    pub fn begin(&mut self)
-        ensures window { self.new.window ≡ self.old.window }
-        ensures nothing { self.new.has_brought ≡ false }
-        ensures taken { self.new.is_start_taken ≡ self.old.is_start_taken }
+    /// How many times pulls have handed over operations of which one wasn't there, modulo 2^64: a pull that leaves it as
+    /// it was has brought nothing.
+    pub fn brought(&self) -> u64
+        ensures { result ≡ self.now.brought }
     {
-        self.has_brought = false;
-    }
-
-    /// Whether the pull that was begun last has brought an operation that wasn't there.
-    pub fn has_brought(&self) -> bool
-        ensures { result ≡ self.now.has_brought }
-    {
-        self.has_brought
+        self.brought
     }
 
     /// Whether a peer has handed over an operation that another process took in as this site.
-    pub fn is_start_taken(&self) -> bool {
+    pub fn is_start_taken(&self) -> bool
+        ensures { result ≡ self.now.is_start_taken }
+    {
         self.is_start_taken
     }
 
@@ -188,6 +182,13 @@ impl<'a, R: Wait, J: Naming> PullPort<'a, R, J> {
     /// Refuses operations that another process took in as this site, and notes that there are such.
     fn bar_foreign(&mut self, ops: &[Op]) -> Result<(), SinkFault>
         ensures later { GoesOn self.old.window.window self.new.window.window }
+        ensures ours { OnOk result ((list_any (is_foreign self.old.window.window.site self.old.window.window.start
+            (arrive self.new.window.window.seen)) ops.now ≡ false)
+            × (self.new.is_start_taken ≡ self.old.is_start_taken)) }
+        ensures foreign { OnErr result (((list_any (is_foreign self.old.window.window.site self.old.window.window.start
+            (arrive self.new.window.window.seen)) ops.now ≡ true) × (self.new.is_start_taken ≡ true))
+            ⊎ ((self.new.window.window ≡ self.old.window.window) × (self.new.is_start_taken ≡ self.old.is_start_taken))) }
+        ensures brought { self.new.brought ≡ self.old.brought }
     {
         match self.window.has_foreign(ops) {
             Ok(false) => Ok(()),
@@ -202,13 +203,17 @@ impl<'a, R: Wait, J: Naming> PullPort<'a, R, J> {
     /// Notes whether one of these stamps isn't there yet.
     fn note_new(&mut self, stamps: &[Stamp]) -> Result<(), SinkFault>
         ensures later { GoesOn self.old.window.window self.new.window.window }
-        ensures noted { OnOk result (self.new.has_brought
-            ≡ (self.old.has_brought || not (list_all (has_stamp (arrive self.new.window.window.seen)) stamps.now))) }
+        ensures same { OnOk result (list_all (has_stamp (arrive self.new.window.window.seen)) stamps.now ≡ true
+            → self.new.brought ≡ self.old.brought) }
+        ensures noted { OnOk result (list_all (has_stamp (arrive self.new.window.window.seen)) stamps.now ≡ false
+            → self.new.brought ≡ (self.old.brought + 1) % 2 ^ 64) }
         ensures taken { self.new.is_start_taken ≡ self.old.is_start_taken }
     {
         match self.window.has_stamps(stamps) {
             Ok(are_there) => {
-                self.has_brought |= !are_there;
+                if !are_there {
+                    self.brought = self.brought.wrapping_add(1);
+                }
                 Ok(())
             }
             Err(fault) => Err(sink_fault(fault)),

@@ -1,6 +1,6 @@
 //! The gates that are put in force while a site runs, which its threads share.
 
-ghost use Rattle.std.specs.Prelude.{◌≡◌, ◌<◌, IfOk, IfSome};
+ghost use Rattle.std.specs.Prelude.{◌≡◌, ◌<◌, ◌≤◌, IfOk, IfSome, IsSomeAnd, None};
 ghost use Rattle.std.specs.Arc.{arc_value};
 ghost use Rattle.site_serve.specs.InForce.{SucceedsGate, gate_in};
 
@@ -74,12 +74,18 @@ impl Latest {
 
     /// The latest, where its number is greater than this one.
     fn newer_than(&self, number: u64) -> Option<InForce>
-        ensures { IfSome result (λ newer. number < newer.number) }
+        ensures newer { IfSome result (λ newer. number < newer.number) }
+        ensures latest { IfSome result (λ newer. IsSomeAnd self.now.in_force
+            (λ latest. (gate_in newer ≡ gate_in latest) × (newer.number ≡ latest.number))) }
+        ensures none { IfSome self.now.in_force (λ latest. latest.number ≤ number → result ≡ None) }
     {
-        match &self.in_force {
-            Some(latest) if latest.number > number => latest.share().ok(),
-            _ => None,
+        let Some(latest) = &self.in_force else {
+            return None;
+        };
+        if latest.number <= number {
+            return None;
         }
+        latest.share().ok()
     }
 }
 

@@ -1,12 +1,16 @@
 //! Runs a site.
 
-ghost use Rattle.std.specs.Prelude.{◌≡◌, ◌∷◌, ◌<◌, ◌≤◌, ◌+◌, [], true, All, IfOk, IsErr, List};
+ghost use Rattle.std.specs.Prelude.{◌≡◌, ◌∷◌, ◌<◌, ◌≤◌, ◌+◌, ◌*◌, [], true, All, Err, IfOk, IsErr, IsSomeAnd, List};
+ghost use Rattle.std.specs.Prelude.{max, min, option_map};
 ghost use Rattle.std.specs.Arc.{arc_value};
+ghost use Rattle.std.specs.Duration.{as_nanos};
 ghost use Rattle.std.specs.List.{list_any};
 ghost use Rattle.replica_core.specs.Journal.{all_arrived};
 ghost use Rattle.review_ops.specs.Operation.{Operation};
 ghost use Rattle.site_serve.specs.Fault.{after_opening};
+ghost use Rattle.site_serve.specs.InForce.{gate_in};
 ghost use Rattle.site_serve.specs.Openings.{HasKept, HasShown};
+ghost use Rattle.site_serve.specs.Options.{RunsWith, idle_nanos};
 ghost use Rattle.site_shared.specs.Accounts.{is_used};
 
 use super::closed::{Closed, Left, served_of, unserved};
@@ -152,6 +156,11 @@ struct Parts<'a> {
 fn parts_of<'a>(setup: Setup<'a>) -> (Gate, Parts<'a>)
     ensures opens { (result.1.replica ≡ setup.entry.replica) × (result.1.options.guard.own ≡ setup.entry.site)
         × (result.1.options.start ≡ setup.entry.start) }
+    ensures options { RunsWith setup.entry result.1.options }
+    ensures others { (result.0 ≡ setup.entry.gate) × (result.1.page ≡ setup.entry.page)
+        × (result.1.limits.sessions ≡ setup.entry.sessions) }
+    ensures limits { (result.1.limits.workers ≡ min (max setup.entry.workers 1) 6)
+        × (result.1.limits.connections ≡ min (max setup.entry.connections 1) 65_535) }
     ensures windows { result.1.limits.workers + 2 + result.1.limits.pullers ≤ 64 }
 {
     let Setup {
@@ -222,6 +231,10 @@ where
     T: Turn,
     ensures opens { IfOk result (λ begun. (begun.replica ≡ setup.entry.replica)
         × (begun.common.options.guard.own ≡ setup.entry.site) × (begun.common.options.start ≡ setup.entry.start)) }
+    ensures options { IfOk result (λ begun. RunsWith setup.entry begun.common.options) }
+    ensures others { IfOk result (λ begun. (gate_in begun.common.first ≡ setup.entry.gate)
+        × (begun.loop_setup.page_and_peers.page ≡ setup.entry.page)
+        × (begun.loop_setup.loop_parts.most ≡ setup.entry.sessions)) }
     ensures windows { IfOk result (λ begun. begun.loop_setup.limits.workers + 2 + begun.loop_setup.limits.pullers ≤ 64) }
 {
     let (gate, parts) = parts_of(setup);
@@ -244,7 +257,13 @@ fn begun_with<'a, E: Drain, T: Turn>(
     ensures opens { (result.replica ≡ parts.entry.replica)
         × (result.common.options.guard.own ≡ parts.entry.options.guard.own)
         × (result.common.options.start ≡ parts.entry.options.start) }
+    ensures options { (result.common.options ≡ parts.entry.options) × (result.common.first ≡ made.first) }
     ensures limits { result.loop_setup.limits ≡ parts.entry.limits }
+    ensures looped { (result.loop_setup.page_and_peers.page ≡ parts.entry.page)
+        × (result.loop_setup.page_and_peers.shares ≡ made.shares)
+        × (result.loop_setup.loop_parts.most ≡ parts.entry.limits.sessions)
+        × (result.loop_setup.loop_parts.connections ≡ parts.entry.limits.connections)
+        × (result.loop_setup.loop_parts.patience ≡ parts.entry.options.patience) }
 {
     let Made {
         poll,
@@ -305,7 +324,9 @@ fn make<R: Net + Clock>(
     gate: Gate,
     peers: usize,
     pullers: usize,
-) -> Result<Made, ServeFault> {
+) -> Result<Made, ServeFault>
+    ensures { IfOk result (λ made. gate_in made.first ≡ gate) }
+{
     let Ok((poll, listeners)) = polled(rt, alloc, listeners) else {
         return Err(ServeFault::NoPlace);
     };
@@ -328,7 +349,9 @@ fn noted<R: Clock>(
     gate: Gate,
     peers: usize,
     pullers: usize,
-) -> Result<(Vec<Vec<Peer>>, Metrics, InForce), AllocError> {
+) -> Result<(Vec<Vec<Peer>>, Metrics, InForce), AllocError>
+    ensures { IfOk result (λ noted. gate_in noted.2 ≡ gate) }
+{
     let first = InForce::first(alloc, gate)?;
     let metrics = Metrics::new(rt, alloc, peers)?;
     let shares = shares_of(alloc, peers, pullers)?;
@@ -415,7 +438,9 @@ fn polled<R: Net>(
 }
 
 /// The patience with the other sides of connections.
-fn patience_of(idle_ms: u64) -> Patience {
+fn patience_of(idle_ms: u64) -> Patience
+    ensures { (as_nanos result.limit ≡ 30_000 * 1_000_000) × (option_map as_nanos result.idle ≡ idle_nanos idle_ms) }
+{
     let idle = if idle_ms > 0 {
         Some(Duration::from_millis(idle_ms))
     } else {
@@ -647,7 +672,12 @@ where
 }
 
 /// How the threads of a site left it, where the last publish showed all that it took in, also what could only be held.
-fn left_of<J: Naming>(ended: Ended<J>, is_start_taken: bool) -> Result<Left, ServeFault> {
+fn left_of<J: Naming>(ended: Ended<J>, is_start_taken: bool) -> Result<Left, ServeFault>
+    ensures left { IfOk result (λ left. (left.is_start_taken ≡ is_start_taken)
+        × IsSomeAnd ended.printed (λ printed. left.written ≡ printed.written)) }
+    ensures kept { IsErr ended.flushed → result ≡ Err ServeFault.NoJournal }
+    ensures refused { ended.is_refused ≡ true → IsErr result }
+{
     let Ended {
         flushed,
         printed,

@@ -1,19 +1,22 @@
 //! A session of a site, as a value: what was read of it, and what waits to be written.
 
-ghost use Rattle.std.specs.Prelude.{◌≡◌, ◌⊎◌, ◌↔◌, ◌<◌, ◌≤◌, ◌+◌, ◌-◌, ◌++◌, [], Bool, Err, IfErr, IfOk, IfSome, IsTrue, MatchBool, MatchOption, None, Ok, Result, Some, drop, is_some, length, nat_eq, not, true};
+ghost use Rattle.std.specs.Prelude.{◌≡◌, ◌⊎◌, ◌↔◌, ◌<◌, ◌≤◌, ◌+◌, ◌-◌, ◌++◌, [], Bool, Err, IfErr, IfOk, IfSome, IsTrue, MatchBool, MatchOption, None, Ok, OnOk, Result, Some, drop, if◌then◌else◌, is_some, length, nat_eq, not, true};
 ghost use Rattle.key_file.specs.declared.key.Role.TheVariants.{Feed};
 ghost use Rattle.std.specs.Arc.{arc_value};
 ghost use Rattle.std.specs.Duration.{as_nanos};
-ghost use Rattle.std.specs.Option.{option_map};
+ghost use Rattle.std.specs.Option.{option_map, option_or};
 ghost use Rattle.gossip_line.specs.Steps.{answer_of};
 ghost use Rattle.gossip_line.specs.Texts.{answer_text, long_line, next_of, refusal_line, reply_text, stamp_line};
 ghost use Rattle.gossip_line.specs.declared.fault.LineFault.{LineFault};
 ghost use Rattle.site_port.specs.Ports.{reply_by, stamped};
-ghost use Rattle.site_serve.specs.Answered.{SaysFault, SaysStamp};
-ghost use Rattle.site_serve.specs.Channels.{IsSent, outgoing_of};
-ghost use Rattle.site_serve.specs.LookedAtKeys.{due_key};
-ghost use Rattle.site_serve.specs.Outboxes.{Adds};
+ghost use Rattle.site_serve.specs.Answered.{HasRole, IsKeptOut, IsLetIn, IsSealedBy, SaysFault, SaysStamp, TakesText, ending_after};
+ghost use Rattle.site_serve.specs.Channels.{IsSent, ReadsOn, outgoing_of};
+ghost use Rattle.site_serve.specs.LookedAtKeys.{due_key, key_by};
+ghost use Rattle.site_serve.specs.Outboxes.{Adds, AddsEach};
+ghost use Rattle.site_serve.specs.Rights.{HasHadLine, IsSameAccess, IsSameRight, OnlySends};
 ghost use Rattle.site_serve.specs.SitePorts.{port_fault_of};
+ghost use Rattle.site_serve.specs.declared.channel.ChannelMode.TheVariants.{Locked, Plain, Shut};
+ghost use Rattle.site_serve.specs.declared.session_fault.SessionFault.TheVariants.{Line};
 
 use super::ask::{Answer, Done};
 use super::channel::{Channel, Credential};
@@ -27,7 +30,7 @@ use memchr::memchr;
 use mio::net::TcpStream;
 use review_ops::Stamp;
 use sealed_line::KeyId;
-use sealed_link::Admitted;
+use sealed_link::{Admitted, Wire};
 use site_net::{Awaited, Patience};
 use site_port::PortFault;
 use site_shared::{BrandedReceipt, Naming};
@@ -115,7 +118,10 @@ impl<J: Naming> Session<J> {
         connection: Connection,
         now: Duration,
     ) -> Session<J>
-        ensures { result.may_take ≡ not connection.is_locked }
+        ensures may { result.may_take ≡ not connection.is_locked }
+        ensures mode { result.channel.mode ≡ (if connection.is_locked then Locked else Plain) }
+        ensures right { (result.number ≡ number) × (result.key ≡ None) × (result.key_seen ≡ now) × (result.lines ≡ 0) }
+        ensures none { (result.inbox ≡ []) × (result.outbox ≡ []) × (result.waiting ≡ 0) × (result.ending ≡ None) }
     {
         let Connection { stream, is_locked } = connection;
         Session {
@@ -180,6 +186,7 @@ impl<J: Naming> Session<J> {
             self.old.outbox self.new.outbox result }
         ensures inbox { self.new.inbox ≡ self.old.inbox }
         ensures waits { self.new.waiting ≡ self.old.waiting }
+        ensures access { IsSameAccess self.old self.new }
     {
         let said = self.outbox.say(alloc, saying);
         self.go_on(said);
@@ -191,6 +198,7 @@ impl<J: Naming> Session<J> {
             result }
         ensures inbox { self.new.inbox ≡ self.old.inbox }
         ensures waits { self.new.waiting ≡ self.old.waiting }
+        ensures access { IsSameAccess self.old self.new }
     {
         let said = self.outbox.say_too_long(alloc);
         self.go_on(said.map(|()| true));
@@ -203,6 +211,7 @@ impl<J: Naming> Session<J> {
         ensures inbox { self.new.inbox ≡ self.old.inbox }
         ensures receipt { self.new.receipt ≡ self.old.receipt }
         ensures waits { self.new.waiting ≡ self.old.waiting }
+        ensures access { IsSameAccess self.old self.new }
     {
         let said = self.outbox.say_taken(alloc, taken);
         self.go_on(said);
@@ -215,6 +224,7 @@ impl<J: Naming> Session<J> {
         ensures receipt { IfOk answer (λ done. self.new.receipt ≡ Some done.receipt) }
         ensures inbox { self.new.inbox ≡ self.old.inbox }
         ensures waits { self.new.waiting ≡ self.old.waiting - 1 }
+        ensures access { IsSameAccess self.old self.new }
     {
         self.waiting = self.waiting.saturating_sub(1);
         match answer {
@@ -229,19 +239,33 @@ impl<J: Naming> Session<J> {
 
     /// Is answered for each `take` that waits that the site has ended: it may be kept, or not.
     pub(super) fn refuse_waiting(&mut self, alloc: Global)
-        ensures { self.new.waiting ≡ 0 }
+        ensures says { AddsEach self.old.waiting (refusal_line PortFault.Closed) self.old.outbox self.new.outbox }
+        ensures waits { self.new.waiting ≡ 0 }
+        ensures inbox { self.new.inbox ≡ self.old.inbox }
+        ensures access { IsSameAccess self.old self.new }
     {
-        for _take in 0..self.waiting {
+        self.refuse_times(alloc, self.waiting);
+        self.waiting = 0;
+    }
+
+    /// Is answered so many times that the site has ended.
+    #[tactic(auto, using(crate::proofs::Rights::adds_more, crate::proofs::Rights::same_then))]
+    fn refuse_times(&mut self, alloc: Global, times: usize)
+        ensures says { AddsEach times (refusal_line PortFault.Closed) self.old.outbox self.new.outbox }
+        ensures inbox { self.new.inbox ≡ self.old.inbox }
+        ensures access { IsSameAccess self.old self.new }
+    {
+        for _ in 0..times {
             self.say_taken(alloc, Err(PortFault::Closed));
         }
-        self.waiting = 0;
     }
 
     /// Is answered by a text that a worker made, and goes on or not.
     pub(super) fn take_text(&mut self, text: Vec<u8>, answered: Result<bool, LineFault>)
-        ensures says { (self.new.outbox ≡ self.old.outbox ++ text.items)
-            ⊎ ((self.new.outbox ≡ self.old.outbox) × (is_some self.new.ending ≡ true)) }
+        ensures says { TakesText text.items answered self.old self.new }
         ensures inbox { self.new.inbox ≡ self.old.inbox }
+        ensures waits { self.new.waiting ≡ self.old.waiting }
+        ensures access { IsSameAccess self.old self.new }
     {
         self.is_away = false;
         match self.outbox.add(text) {
@@ -252,7 +276,9 @@ impl<J: Naming> Session<J> {
 
     /// Goes on, since its worker is done.
     pub(super) fn come_back(&mut self)
-        ensures { self.new.outbox ≡ self.old.outbox }
+        ensures inbox { self.new.inbox ≡ self.old.inbox }
+        ensures kept { (self.new.outbox ≡ self.old.outbox) × (self.new.waiting ≡ self.old.waiting) }
+        ensures access { IsSameAccess self.old self.new }
     {
         self.is_away = false;
     }
@@ -261,6 +287,7 @@ impl<J: Naming> Session<J> {
     pub(super) fn go_away(&mut self)
         ensures inbox { self.new.inbox ≡ self.old.inbox }
         ensures kept { (self.new.outbox ≡ self.old.outbox) × (self.new.waiting ≡ self.old.waiting) }
+        ensures access { IsSameAccess self.old self.new }
     {
         self.is_away = true;
     }
@@ -269,12 +296,17 @@ impl<J: Naming> Session<J> {
     pub(super) fn hold_back(&mut self)
         ensures inbox { self.new.inbox ≡ self.old.inbox }
         ensures kept { (self.new.outbox ≡ self.old.outbox) × (self.new.waiting ≡ self.old.waiting) }
+        ensures access { IsSameAccess self.old self.new }
     {
         self.is_held_back = true;
     }
 
     /// Waits no more until others have read their answers. Whether it did.
-    pub(super) fn let_go(&mut self) -> bool {
+    pub(super) fn let_go(&mut self) -> bool
+        ensures inbox { self.new.inbox ≡ self.old.inbox }
+        ensures kept { (self.new.outbox ≡ self.old.outbox) × (self.new.waiting ≡ self.old.waiting) }
+        ensures access { IsSameAccess self.old self.new }
+    {
         mem::replace(&mut self.is_held_back, false)
     }
 
@@ -283,6 +315,7 @@ impl<J: Naming> Session<J> {
         ensures inbox { self.new.inbox ≡ self.old.inbox }
         ensures outbox { self.new.outbox ≡ self.old.outbox }
         ensures waits { 0 < self.new.waiting }
+        ensures access { IsSameAccess self.old self.new }
     {
         self.waiting = self.waiting.saturating_add(1);
         self.has_taken = true;
@@ -306,7 +339,11 @@ impl<J: Naming> Session<J> {
     }
 
     /// Notes that its connection may have more to read, and whether the other side sends nothing more after that.
-    pub(super) fn note_ready(&mut self, is_closing: bool) {
+    pub(super) fn note_ready(&mut self, is_closing: bool)
+        ensures inbox { self.new.inbox ≡ self.old.inbox }
+        ensures kept { (self.new.outbox ≡ self.old.outbox) × (self.new.waiting ≡ self.old.waiting) }
+        ensures access { IsSameAccess self.old self.new }
+    {
         self.may_read = true;
         self.is_closing |= is_closing;
     }
@@ -316,6 +353,7 @@ impl<J: Naming> Session<J> {
         requires { size < length self.old.inbox }
         ensures inbox { self.new.inbox ≡ drop (size + 1) self.old.inbox }
         ensures kept { (self.new.outbox ≡ self.old.outbox) × (self.new.waiting ≡ self.old.waiting) }
+        ensures had { HasHadLine self.old self.new }
     {
         self.inbox.pass(size);
         self.lines = self.lines.saturating_add(1);
@@ -325,6 +363,7 @@ impl<J: Naming> Session<J> {
     pub(super) fn end_spent(&mut self)
         ensures inbox { self.new.inbox ≡ self.old.inbox }
         ensures kept { (self.new.outbox ≡ self.old.outbox) × (self.new.waiting ≡ self.old.waiting) }
+        ensures access { IsSameAccess self.old self.new }
     {
         self.end(Err(LineFault::ReadFault));
     }
@@ -334,6 +373,9 @@ impl<J: Naming> Session<J> {
         ensures inbox { self.new.inbox ≡ self.old.inbox }
         ensures receipt { self.new.receipt ≡ self.old.receipt }
         ensures kept { (self.new.outbox ≡ self.old.outbox) × (self.new.waiting ≡ self.old.waiting) }
+        ensures access { IsSameAccess self.old self.new }
+        ensures well { OnOk ending (self.new.ending ≡ option_or self.old.ending (Some (Ok tt))) }
+        ensures by { IfErr ending (λ fault. self.new.ending ≡ option_or self.old.ending (Some (Err (Line fault)))) }
         ensures ends { is_some self.new.ending ≡ true }
     {
         match ending {
@@ -343,15 +385,16 @@ impl<J: Naming> Session<J> {
     }
 
     /// Ends so once all that waits is written, unless it was to end before.
+    #[tactic(auto, using(crate::proofs::Rights::ends_so))]
     fn end_as(&mut self, ending: Result<(), SessionFault>)
         ensures inbox { self.new.inbox ≡ self.old.inbox }
         ensures receipt { self.new.receipt ≡ self.old.receipt }
         ensures kept { (self.new.outbox ≡ self.old.outbox) × (self.new.waiting ≡ self.old.waiting) }
+        ensures access { IsSameAccess self.old self.new }
+        ensures how { self.new.ending ≡ option_or self.old.ending (Some ending) }
         ensures ends { is_some self.new.ending ≡ true }
     {
-        if self.ending.is_none() {
-            self.ending = Some(ending);
-        }
+        self.ending = self.ending.or(Some(ending));
     }
 
     /// Notes whether the session goes on after an answer.
@@ -359,6 +402,8 @@ impl<J: Naming> Session<J> {
         ensures inbox { self.new.inbox ≡ self.old.inbox }
         ensures receipt { self.new.receipt ≡ self.old.receipt }
         ensures kept { (self.new.outbox ≡ self.old.outbox) × (self.new.waiting ≡ self.old.waiting) }
+        ensures access { IsSameAccess self.old self.new }
+        ensures ends { self.new.ending ≡ ending_after answered self.old.ending }
     {
         match answered {
             Ok(true) => {}
@@ -368,8 +413,11 @@ impl<J: Naming> Session<J> {
     }
 
     /// Reads what is there, and says whether something came.
+    #[tactic(auto, using(crate::proofs::Rights::reads_nothing))]
     pub(super) fn read(&mut self, buffer: &mut [u8], now: Duration) -> bool
         ensures kept { (self.new.outbox ≡ self.old.outbox) × (self.new.waiting ≡ self.old.waiting) }
+        ensures right { IsSameRight self.old self.new }
+        ensures came { ReadsOn self.old.channel.mode self.old.inbox self.new.channel.mode self.new.inbox }
     {
         if self.is_read_out {
             self.end(Ok(()));
@@ -389,27 +437,51 @@ impl<J: Naming> Session<J> {
                 // with it isn't noted again.
                 self.may_read = self.is_closing || count == buffer.len();
                 let came = buffer.get(..count).unwrap_or(&[]);
-                self.note(came, now);
-                if let Err(fault) = self.channel.take(came, &mut self.inbox) {
-                    self.end_as(Err(fault));
-                    return false;
-                }
-                true
+                self.take_in(came, now)
             }
             Err(error) => {
-                match error.kind() {
-                    ErrorKind::WouldBlock => self.may_read = false,
-                    ErrorKind::Interrupted => {}
-                    _ => self.end(Err(LineFault::ReadFault)),
-                }
+                self.read_nothing(error.kind());
                 false
             }
         }
     }
 
+    /// Takes in what came. False where the session ends by it.
+    #[tactic(auto, using(crate::proofs::Rights::reads_came))]
+    fn take_in(&mut self, came: &[u8], now: Duration) -> bool
+        ensures kept { (self.new.outbox ≡ self.old.outbox) × (self.new.waiting ≡ self.old.waiting) }
+        ensures right { IsSameRight self.old self.new }
+        ensures came { ReadsOn self.old.channel.mode self.old.inbox self.new.channel.mode self.new.inbox }
+    {
+        let taken = self.channel.take(came, &mut self.inbox);
+        self.note(came, now);
+        match taken {
+            Ok(()) => true,
+            Err(fault) => {
+                self.end_as(Err(fault));
+                false
+            }
+        }
+    }
+
+    /// Nothing came: there is nothing more to read for now, or the connection has failed, and it ends.
+    fn read_nothing(&mut self, kind: ErrorKind)
+        ensures inbox { self.new.inbox ≡ self.old.inbox }
+        ensures kept { (self.new.outbox ≡ self.old.outbox) × (self.new.waiting ≡ self.old.waiting) }
+        ensures access { IsSameAccess self.old self.new }
+    {
+        match kind {
+            ErrorKind::WouldBlock => self.may_read = false,
+            ErrorKind::Interrupted => {}
+            _ => self.end(Err(LineFault::ReadFault)),
+        }
+    }
+
     /// Notes what came: the wait for a line begins anew where one has ended or begun.
     fn note(&mut self, came: &[u8], now: Duration)
+        ensures inbox { self.new.inbox ≡ self.old.inbox }
         ensures kept { (self.new.outbox ≡ self.old.outbox) × (self.new.waiting ≡ self.old.waiting) }
+        ensures access { IsSameAccess self.old self.new }
     {
         let next = match came.last() {
             Some(b'\n') => Awaited::NextLine,
@@ -422,54 +494,87 @@ impl<J: Naming> Session<J> {
     }
 
     /// Writes what waits, as much as the connection takes, and not all of it at once where that is much.
-    pub(super) fn write(&mut self, now: Duration) {
+    pub(super) fn write(&mut self, now: Duration)
+        ensures only { OnlySends self.old self.new }
+    {
         self.takes_more = false;
         for _ in 0..WRITES {
-            self.seal_more();
-            let text = self.channel.next(&self.outbox);
-            if text.is_empty() {
-                self.drop_rest();
-                self.stuck = now;
+            if !self.write_next(now) {
                 return;
-            }
-            match self.stream.write(text) {
-                Ok(count) => self.note_sent(count, now),
-                Err(error) => {
-                    match error.kind() {
-                        ErrorKind::WouldBlock => {}
-                        ErrorKind::Interrupted => self.takes_more = true,
-                        _ => self.fail(LineFault::WriteFault),
-                    }
-                    return;
-                }
             }
         }
         self.takes_more = true;
     }
 
+    /// Writes what is sent next, as much as the connection takes. Whether it may take more now.
+    #[tactic(auto, using(crate::proofs::Rights::only_then))]
+    fn write_next(&mut self, now: Duration) -> bool
+        ensures only { OnlySends self.old self.new }
+    {
+        self.seal_more();
+        let text = self.channel.next(&self.outbox);
+        if text.is_empty() {
+            self.drop_rest();
+            self.stuck = now;
+            return false;
+        }
+        match self.stream.write(text) {
+            Ok(count) => {
+                self.note_sent(count, now);
+                true
+            }
+            Err(error) => {
+                self.write_nothing(error.kind());
+                false
+            }
+        }
+    }
+
+    /// Nothing was written: the connection takes nothing for now, or it has failed, and the session ends.
+    #[tactic(auto, using(crate::proofs::Rights::rest_same, crate::proofs::Rights::rest_none))]
+    fn write_nothing(&mut self, kind: ErrorKind)
+        ensures only { OnlySends self.old self.new }
+    {
+        match kind {
+            ErrorKind::WouldBlock => {}
+            ErrorKind::Interrupted => self.takes_more = true,
+            _ => self.fail(LineFault::WriteFault),
+        }
+    }
+
     /// Gives up a part of an answer for which memory was refused, and which is no line that could be sealed, once it
     /// ends.
-    fn drop_rest(&mut self) {
+    #[tactic(auto, using(crate::proofs::Rights::rest_same, crate::proofs::Rights::rest_none))]
+    fn drop_rest(&mut self)
+        ensures only { OnlySends self.old self.new }
+    {
         if self.ending.is_some() {
             self.outbox.clear();
         }
     }
 
     /// Seals more of what it was answered, where its lines are sealed.
-    fn seal_more(&mut self) {
+    #[tactic(auto, using(crate::proofs::Rights::rest_none, crate::proofs::Rights::sealed_rest))]
+    fn seal_more(&mut self)
+        ensures only { OnlySends self.old self.new }
+    {
         if self.channel.is_shut() {
             self.outbox.clear();
+            return;
         }
-        if let Err(fault) = self.channel.seal(&mut self.outbox) {
-            self.fail_as(fault);
+        match self.channel.seal(&mut self.outbox) {
+            Ok(()) => {}
+            Err(fault) => self.fail_as(fault),
         }
     }
 
     /// Notes that so many bytes of what waits were written.
+    #[tactic(auto, using(crate::proofs::Rights::sent_rest))]
     fn note_sent(&mut self, count: usize, now: Duration)
         requires { count ≤ length (outgoing_of self.old.channel.first self.old.channel.mode self.old.outbox) }
-        ensures { IsSent count self.old.channel.first self.old.channel.mode self.old.outbox self.new.channel.first
+        ensures sent { IsSent count self.old.channel.first self.old.channel.mode self.old.outbox self.new.channel.first
             self.new.channel.mode self.new.outbox }
+        ensures only { OnlySends self.old self.new }
     {
         self.channel.note_sent(&mut self.outbox, count);
         self.stuck = now;
@@ -477,14 +582,22 @@ impl<J: Naming> Session<J> {
 
     /// Ends with a fault, and nothing more is written.
     pub(super) fn fail(&mut self, fault: LineFault)
-        ensures { self.new.outbox ≡ [] }
+        ensures none { (self.new.outbox ≡ []) × (self.new.channel.mode ≡ Shut) }
+        ensures ends { is_some self.new.ending ≡ true }
+        ensures inbox { self.new.inbox ≡ self.old.inbox }
+        ensures waits { self.new.waiting ≡ self.old.waiting }
+        ensures right { IsSameRight self.old self.new }
     {
         self.fail_as(SessionFault::Line(fault));
     }
 
     /// Ends with a fault, and nothing more is written.
     fn fail_as(&mut self, fault: SessionFault)
-        ensures { self.new.outbox ≡ [] }
+        ensures none { (self.new.outbox ≡ []) × (self.new.channel.mode ≡ Shut) }
+        ensures ends { is_some self.new.ending ≡ true }
+        ensures inbox { self.new.inbox ≡ self.old.inbox }
+        ensures waits { self.new.waiting ≡ self.old.waiting }
+        ensures right { IsSameRight self.old self.new }
     {
         self.end_as(Err(fault));
         self.outbox.clear();
@@ -492,12 +605,14 @@ impl<J: Naming> Session<J> {
     }
 
     /// Ends where the patience with the other side is at its end.
-    pub(super) fn end_if_over(&mut self, patience: Patience, now: Duration) {
+    pub(super) fn end_if_over(&mut self, patience: Patience, now: Duration)
+        ensures none { (self.new.outbox ≡ self.old.outbox) ⊎ (self.new.outbox ≡ []) }
+        ensures inbox { self.new.inbox ≡ self.old.inbox }
+        ensures waits { self.new.waiting ≡ self.old.waiting }
+        ensures right { IsSameRight self.old self.new }
+    {
         if self.outbox.len() > 0 || !self.channel.is_sent() {
-            let stuck = now.saturating_sub(self.stuck);
-            if patience.is_over(Awaited::RestOfLine, stuck) {
-                self.fail(LineFault::WriteFault);
-            }
+            self.fail_if_stuck(patience, now);
             return;
         }
         if self.is_away || self.is_held_back || self.waiting > 0 || self.ending.is_some() {
@@ -509,6 +624,19 @@ impl<J: Naming> Session<J> {
         let waited = now.saturating_sub(self.since);
         if patience.is_over(self.awaited, waited) {
             self.end(Err(LineFault::ReadFault));
+        }
+    }
+
+    /// Ends where the patience with the other side, which takes in nothing, is at its end.
+    fn fail_if_stuck(&mut self, patience: Patience, now: Duration)
+        ensures none { (self.new.outbox ≡ self.old.outbox) ⊎ (self.new.outbox ≡ []) }
+        ensures inbox { self.new.inbox ≡ self.old.inbox }
+        ensures waits { self.new.waiting ≡ self.old.waiting }
+        ensures right { IsSameRight self.old self.new }
+    {
+        let stuck = now.saturating_sub(self.stuck);
+        if patience.is_over(Awaited::RestOfLine, stuck) {
+            self.fail(LineFault::WriteFault);
         }
     }
 
@@ -529,11 +657,12 @@ impl<J: Naming> Session<J> {
 
     /// Waits for a worker to look whether it is let in by this.
     pub(super) fn ask_by(&mut self, credential: Credential)
-        ensures { (self.new.outbox ≡ self.old.outbox) × (self.new.waiting ≡ self.old.waiting) }
+        ensures inbox { self.new.inbox ≡ self.old.inbox }
+        ensures kept { (self.new.outbox ≡ self.old.outbox) × (self.new.waiting ≡ self.old.waiting) }
+        ensures key { self.new.key ≡ key_by credential self.old.key }
+        ensures access { IsSameAccess (record self.old { key = self.new.key }) self.new }
     {
-        if let Credential::Key(greeting) = credential {
-            self.key = Some(greeting.id);
-        }
+        self.key = key_by(credential, self.key);
         self.go_away();
     }
 
@@ -555,24 +684,39 @@ impl<J: Naming> Session<J> {
         ensures seen { self.new.key_seen ≡ now }
         ensures outbox { self.new.outbox ≡ self.old.outbox }
         ensures ends { role ≡ None → is_some self.new.ending ≡ true }
+        ensures has { HasRole role self.old self.new }
+        ensures inbox { self.new.inbox ≡ self.old.inbox }
+        ensures waits { self.new.waiting ≡ self.old.waiting }
+    {
+        self.end_without(role);
+        self.is_away = false;
+        self.key_seen = now;
+        self.may_take = matches!(role, Some(Role::Feed));
+    }
+
+    /// Ends where the site has no such key any more.
+    fn end_without(&mut self, role: Option<Role>)
+        ensures inbox { self.new.inbox ≡ self.old.inbox }
+        ensures kept { (self.new.outbox ≡ self.old.outbox) × (self.new.waiting ≡ self.old.waiting) }
+        ensures access { IsSameAccess self.old self.new }
+        ensures ends { role ≡ None → is_some self.new.ending ≡ true }
     {
         if role.is_none() {
             self.end_as(Err(SessionFault::NoKey));
         }
-        self.is_away = false;
-        self.key_seen = now;
-        self.may_take = matches!(role, Some(Role::Feed));
     }
 
     /// Is let in by a key: its lines are sealed from now on, the first of which has the time that a first line has.
     pub(super) fn let_in(&mut self, admitted: Admitted, now: Duration)
         ensures role { IsTrue self.new.may_take ↔ admitted.role ≡ Feed }
         ensures kept { (self.new.outbox ≡ self.old.outbox) ⊎ (self.new.outbox ≡ []) }
+        ensures seen { self.new.key_seen ≡ now }
+        ensures sealed { IsLetIn admitted.role admitted.wire self.old self.new }
+        ensures inbox { self.new.inbox ≡ self.old.inbox }
+        ensures waits { self.new.waiting ≡ self.old.waiting }
     {
         let Admitted { role, answer, wire } = admitted;
-        if let Err(fault) = self.channel.let_in(answer, wire) {
-            self.fail_as(fault);
-        }
+        self.seal_by(answer, wire);
         self.is_away = false;
         self.may_take = role == Role::Feed;
         self.key_seen = now;
@@ -580,14 +724,31 @@ impl<J: Naming> Session<J> {
         self.awaited = Awaited::FirstLine;
     }
 
+    /// Is answered that it is let in: its bytes are sealed from now on. Where memory is refused for that it ends.
+    fn seal_by(&mut self, answer: Vec<u8>, wire: Wire)
+        ensures sealed { IsSealedBy wire self.old self.new }
+        ensures kept { (self.new.outbox ≡ self.old.outbox) ⊎ (self.new.outbox ≡ []) }
+        ensures inbox { self.new.inbox ≡ self.old.inbox }
+        ensures waits { self.new.waiting ≡ self.old.waiting }
+        ensures right { IsSameRight self.old self.new }
+    {
+        match self.channel.let_in(answer, wire) {
+            Ok(()) => {}
+            Err(fault) => self.fail_as(fault),
+        }
+    }
+
     /// Isn't let in, is answered so, and ends.
     pub(super) fn keep_out(&mut self, answer: Vec<u8>)
-        ensures { (self.new.outbox ≡ self.old.outbox) ⊎ (self.new.outbox ≡ []) }
+        ensures kept { (self.new.outbox ≡ self.old.outbox) ⊎ (self.new.outbox ≡ []) }
+        ensures out { IsKeptOut self.old self.new }
+        ensures inbox { self.new.inbox ≡ self.old.inbox }
+        ensures waits { self.new.waiting ≡ self.old.waiting }
     {
         self.is_away = false;
-        self.end_as(Err(SessionFault::NoKey));
-        if let Err(fault) = self.channel.keep_out(answer) {
-            self.fail_as(fault);
+        match self.channel.keep_out(answer) {
+            Ok(()) => self.end_as(Err(SessionFault::NoKey)),
+            Err(_) => self.fail_as(SessionFault::NoKey),
         }
     }
 
@@ -611,5 +772,15 @@ impl<J: Naming> Session<J> {
     /// Closes the connection.
     pub(super) fn close(&mut self) {
         let _closed = self.stream.shutdown(Shutdown::Both);
+    }
+}
+
+/// The key of a session that asks to be let in by this, where it had asked by that one before.
+fn key_by(credential: Credential, before: Option<KeyId>) -> Option<KeyId>
+    ensures { result ≡ key_by credential before }
+{
+    match credential {
+        Credential::Key(greeting) => Some(greeting.id),
+        Credential::None | Credential::Other => before,
     }
 }

@@ -1,7 +1,9 @@
 //! The threads of a site: its loop in this one, and beside it those that print its reports, show it to browsers, pull
 //! from its peers and look for its sessions.
 
+ghost use Rattle.std.specs.Prelude.{◌≡◌};
 ghost use Rattle.std.specs.Thread.{IsSend, IsSync};
+ghost use Rattle.site_port.specs.Guarding.{guard_in, sink_in};
 
 use super::ask::Puller;
 use super::common::{Common, FirstGates};
@@ -24,7 +26,7 @@ use mio::Waker;
 use page_server::PageEndpoint;
 use site_ledger::Keeps;
 use site_net::Patience;
-use site_port::Guarded;
+use site_port::{Guarded, Sink};
 use site_shared::Naming;
 use std::net::{Net, TcpListener, TcpStream};
 use std::sync::Wait;
@@ -433,12 +435,19 @@ where
     J: Naming,
 {
     let pulling = pulling_of(common);
-    let mut port = Guarded {
-        guard: &common.options.guard,
-        sink: port,
-    };
+    let mut port = behind_guard(common, port);
     pull_from_peers(rt, &pulling, peers, &common.errors, &mut port);
-    port.sink.is_start_taken()
+    port.sink().is_start_taken()
+}
+
+/// A sink behind the guard of the site.
+fn behind_guard<'g, E: Drain, T: Turn, K: Sink>(
+    common: &'g Common<'_, E, T>,
+    sink: K,
+) -> Guarded<'g, K>
+    ensures { (guard_in result ≡ common.now.options.guard) × (sink_in result ≡ sink) }
+{
+    Guarded::new(&common.options.guard, sink)
 }
 
 /// The settings of pulls.

@@ -5,4 +5,4 @@ use Rattle.site_serve.proofs.run.closed.Goals as goal
 pub returns : goal.returns
 returns g c =
     kept_served g.K.Keeps.survives g.J.Opening.had g.J.Opening.journal c.args.remains.keeper
-    (arc_value c.args.remains.shown) c.served_of.result c.requires c.served_of.ensures
+    (arc_value c.args.remains.shown) c.served_of.result c.requires c.served_of.ensures.shown
