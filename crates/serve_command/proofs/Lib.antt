@@ -1,5 +1,7 @@
 pub mod Adding
 pub mod Ending
+mod Reading
+mod Torn
 mod Starts
 mod Restarting
 mod Leaving

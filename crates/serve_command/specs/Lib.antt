@@ -7,3 +7,4 @@ pub mod LateClock
 pub mod Listening
 pub mod Wishes
 pub mod Restarts
+pub mod Starts

@@ -1,7 +1,7 @@
 //! Runs a site over sockets of this machine, as the words of the command line ask for.
 
 ghost use Rattle.std.specs.Prelude.{◌≡◌, Err, IfErr, IfOk, option_map};
-ghost use Rattle.serve_command.specs.Beginning.{AreInputs, IsLoaded};
+ghost use Rattle.serve_command.specs.Beginning.{AreInputs, AreRefused, IsLoaded, loads_of, site_inputs};
 
 use super::fault::ProgramFault;
 use super::finished::Finished;
@@ -316,14 +316,17 @@ fn read_from<'n, I: Source, O: Drain, N: Named>(
     read_inputs(alloc, gate, load, &mut console)
 }
 
-/// The gate, and the record to begin with.
+/// The gate, and the record to begin with. Refusals: that of the first input that can't be had; `Memory`, memory was
+/// refused for the record once all were had.
 fn read_inputs<'n, C: Console>(
     alloc: Global,
     gate: &'n str,
     load: Option<&'n str>,
     console: &mut C,
 ) -> Result<(Gate, Replica), Refusal<'n>>
-    ensures { IfOk result (λ inputs. AreInputs gate.now (option_map (λ name. name.now) load.entry) inputs.0 inputs.1
+    ensures had { IfOk result (λ inputs. AreInputs gate.now (option_map (λ name. name.now) load.entry) inputs.0 inputs.1
+        (C.state console.old) (C.state console.new)) }
+    ensures refused { IfErr result (AreRefused (site_inputs gate.now (option_map (λ name. name.now) load.entry))
         (C.state console.old) (C.state console.new)) }
 {
     let rules = read_gate(alloc, gate, console)?;
@@ -337,13 +340,24 @@ fn read_loaded<'n, C: Console>(
     load: Option<&'n str>,
     console: &mut C,
 ) -> Result<Replica, Refusal<'n>>
-    ensures { IfOk result (λ replica. IsLoaded (option_map (λ name. name.now) load.entry) replica (C.state console.old)
+    ensures had { IfOk result (λ replica. IsLoaded (option_map (λ name. name.now) load.entry) replica (C.state console.old)
         (C.state console.new)) }
+    ensures refused { IfErr result (AreRefused (loads_of (option_map (λ name. name.now) load.entry))
+        (C.state console.old) (C.state console.new)) }
 {
     let Some(name) = load else {
         return Ok(Replica::new(alloc));
     };
     let gathering = read_snapshot(Gathering::new(alloc), name, console)?;
+    let replica = record_of(gathering)?;
+    Ok(replica)
+}
+
+/// The record that was gathered.
+fn record_of(gathering: Gathering) -> Result<Replica, Refusal<'static>>
+    ensures record { IfOk result (λ replica. replica ≡ gathering) }
+    ensures refused { IfErr result (λ refusal. refusal ≡ Refusal.Memory) }
+{
     match gathering.joined() {
         Ok(replica) => Ok(replica),
         Err(_) => Err(Refusal::Memory),

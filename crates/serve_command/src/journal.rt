@@ -1,11 +1,13 @@
 //! The record of a site that has a journal.
 
-ghost use Rattle.std.specs.Prelude.{◌≡◌, ◌++◌, ◌∷◌, [], IfOk, IfSome, List, OnOk};
+ghost use Rattle.std.specs.Prelude.{◌≡◌, ◌++◌, ◌∷◌, [], IfErr, IfOk, IfSome, List, OnOk};
+ghost use Rattle.console.specs.Showing.{error_output};
 ghost use Rattle.replica_core.specs.Sets.{IsSameSet};
 ghost use Rattle.review_ops.specs.Operation.{Operation};
 ghost use Rattle.site_journal.specs.Book.{IsHolding};
 ghost use Rattle.site_journal.specs.Tape.{IsAtStart};
-ghost use Rattle.serve_command.specs.Beginning.{HasSurvivors, IsAdded, IsRecordBegun, lacking_of};
+ghost use Rattle.serve_command.specs.Beginning.{HasSurvivors, IsAdded, IsOfSite, IsRecordBegun, IsUnbegun};
+ghost use Rattle.serve_command.specs.Beginning.{SaysTornOf, lacking_of};
 
 use super::command::Ended;
 use super::fault::ProgramFault;
@@ -38,6 +40,9 @@ pub fn begin<B: Batches, T: Tape + Drop, E: Drain>(
     ensures kept { IfOk result (λ begun. (ops : List Operation) × IsHolding begun.0 ops × IsSameSet begun.1 ops) }
     ensures whole { IfOk result (λ begun. IfSome (T.image tape) (λ i. IsRecordBegun i.contents loaded begun.1)) }
     ensures survivors { IfOk result (λ begun. IfSome (T.image tape) (λ i. HasSurvivors i.contents begun.1)) }
+    ensures torn { OnOk result (IfSome (T.image tape) (λ i. SaysTornOf
+        (λ output. error_output (E.taken output) (E.failed output)) i.contents errors.old errors.new)) }
+    ensures unbegun { IfErr result (IsUnbegun (T.image tape) errors.old errors.new) }
 {
     journals_have_one_reading();
     open_and_add(alloc, batches, tape, loaded, errors)
@@ -54,6 +59,9 @@ fn open_and_add<B: Batches, T: Tape + Drop, E: Drain>(
     requires { IsAtStart (T.image tape) (T.left tape) }
     ensures kept { IfOk result (λ begun. (ops : List Operation) × IsHolding begun.0 ops × IsSameSet begun.1 ops) }
     ensures whole { IfOk result (λ begun. IfSome (T.image tape) (λ i. IsRecordBegun i.contents loaded begun.1)) }
+    ensures torn { OnOk result (IfSome (T.image tape) (λ i. SaysTornOf
+        (λ output. error_output (E.taken output) (E.failed output)) i.contents errors.old errors.new)) }
+    ensures unbegun { IfErr result (IsUnbegun (T.image tape) errors.old errors.new) }
 {
     match Journal::open_by(alloc, batches, tape) {
         Ok(started) => {
@@ -74,6 +82,7 @@ fn add_loaded<T: Tape + Drop>(
     ensures kept { (before : List Operation) → IsHolding journal before
         → IfOk result (λ begun. IsHolding begun.0 (before ++ lacking_of replica loaded)) }
     ensures both { IfOk result (λ begun. IsSameSet begun.1 (replica ++ loaded)) }
+    ensures site { IfErr result IsOfSite }
 {
     let (mut journal, mut replica) = (journal, replica);
     match add_lacking(alloc, &mut journal, &replica, &loaded) {

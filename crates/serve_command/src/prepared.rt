@@ -1,6 +1,7 @@
 //! Makes what a site runs with: its start, what it listens at, what hears its input and its output.
 
 ghost use Rattle.std.specs.Prelude.{◌≡◌, IfOk};
+ghost use Rattle.serve_command.specs.Starts.{IsStartOf};
 
 use super::command::Ended;
 use super::heard::{Heard, hear};
@@ -74,7 +75,9 @@ where
     I: Source + Send + Drop + 'static,
     N: Named + Send + Drop + 'static,
     E: Drain + Send + Drop + 'static,
-    ensures { IfOk result (λ prepared. prepared.opened.site ≡ site.entry) }
+    ensures site { IfOk result (λ prepared. prepared.opened.site ≡ site.entry) }
+    ensures start { IfOk result
+        (λ prepared. IsStartOf site.entry.serving.site site.entry.serving.start site.entry.replica prepared.opened.start) }
 {
     let mut outside = outside;
     show_late_clock(alloc, &site.replica, &mut outside.errors);
@@ -89,7 +92,9 @@ fn open<'a, R>(rt: &R, alloc: Global, site: Site<'a>) -> Result<Opened<'a>, Ende
 where
     R: Net<Listener = TcpListener, Stream = TcpStream> + RandomSource,
     R: Files + Print + Clock,
-    ensures { IfOk result (λ opened. opened.site ≡ site.entry) }
+    ensures site { IfOk result (λ opened. opened.site ≡ site.entry) }
+    ensures start { IfOk result
+        (λ opened. IsStartOf site.entry.serving.site site.entry.serving.start site.entry.replica opened.start) }
 {
     match beginning_of(rt, alloc, &site) {
         Ok((start, listening)) => Ok(Opened {
@@ -110,6 +115,8 @@ fn beginning_of<'a, R>(
 where
     R: Net<Listener = TcpListener, Stream = TcpStream> + RandomSource,
     R: Files + Print + Clock,
+    ensures { IfOk result
+        (λ begun. IsStartOf site.now.serving.site site.now.serving.start site.now.replica begun.0) }
 {
     let serving = &site.serving;
     let Some(start) = start_of(rt, serving.start, &site.replica, serving.site) else {

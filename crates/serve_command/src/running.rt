@@ -1,11 +1,12 @@
 //! Runs a site over what keeps its operations, to the snapshot that is saved of it.
 
-ghost use Rattle.std.specs.Prelude.{◌≡◌, IfOk, IfSome, List, OnErr, option_map};
+ghost use Rattle.std.specs.Prelude.{◌≡◌, IfErr, IfOk, IfSome, List, OnErr, OnOk, option_map};
+ghost use Rattle.console.specs.Showing.{error_output};
 ghost use Rattle.replica_core.specs.Sets.{IsSameSet};
 ghost use Rattle.review_ops.specs.Operation.{Operation};
 ghost use Rattle.site_journal.specs.Book.{IsHolding};
 ghost use Rattle.site_journal.specs.Tape.{IsAtStart};
-ghost use Rattle.serve_command.specs.Beginning.{HasSurvivors, IsRecordBegun};
+ghost use Rattle.serve_command.specs.Beginning.{HasSurvivors, IsRecordBegun, IsUnbegun, SaysTornOf};
 ghost use Rattle.serve_command.specs.Leaving.{HasRun, HasSaved, LeavesKept};
 ghost use Rattle.serve_command.specs.Printing.{prints_of};
 
@@ -87,6 +88,9 @@ fn begun_on<'a, R: Threads + Drop, T: Tape + Drop, E: Drain>(
         (λ begun. IfSome (T.image tape) (λ i. IsRecordBegun i.contents site.entry.replica begun.1.replica)) }
     ensures survivors { IfOk result
         (λ begun. IfSome (T.image tape) (λ i. HasSurvivors i.contents begun.1.replica)) }
+    ensures torn { OnOk result (IfSome (T.image tape) (λ i. SaysTornOf
+        (λ output. error_output (E.taken output) (E.failed output)) i.contents errors.old errors.new)) }
+    ensures unbegun { IfErr result (IsUnbegun (T.image tape) errors.old errors.new) }
 {
     let Site {
         serving,
