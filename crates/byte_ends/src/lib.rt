@@ -1,11 +1,10 @@
-//! The ends through which bytes come in and go out: a source is read, a drain is written. Each
-//! counts the calls that failed, so that a caller can say that an error came only where its end
-//! failed.
+//! The ends through which bytes come in and go out: a source is read, a drain is written to. Each counts the calls that
+//! failed, so that a contract can say that an error is returned only if an end failed.
 //!
 //! Its tests are in the crate `text_tests`.
 //!
-//! It is here since a contract has to say that a fault comes only where an end failed: `std`'s `Read` and `Write` don't
-//! count failures. Not taken: `std`'s `BufRead` and `bytes`, for the same reason.
+//! It is a crate of its own because `std`'s `Read` and `Write` don't count failures, which contracts need. Not taken:
+//! `std`'s `BufRead` and `bytes`, for the same reason.
 //!
 //! An example of its use:
 //!

@@ -49,7 +49,7 @@ pub trait Drain {
         ensures { result ≡ failed self.now };
 }
 
-/// A source that is lent is one.
+/// A mutable borrow of a source is a source.
 impl<S: Source> Source for &mut S {
     ghost left = { λ source. S.left source.now };
 
@@ -64,7 +64,7 @@ impl<S: Source> Source for &mut S {
     }
 }
 
-/// A drain that is lent is one.
+/// A mutable borrow of a drain is a drain.
 impl<D: Drain> Drain for &mut D {
     ghost taken = { λ drain. D.taken drain.now };
 

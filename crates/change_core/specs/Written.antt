@@ -45,7 +45,7 @@ merges (abandon change) = false
 merges (restore change) = false
 merges (merged change) = true
 
--- what is written bears the operation's stamp
+-- what is written has the operation's stamp
 abbrev pub with_stamp : {T : Type 0} → Timestamp → Option T → Option (Timestamp × T)
 with_stamp stamp None = None
 with_stamp stamp (Some value) = Some (stamp, value)

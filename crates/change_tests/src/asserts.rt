@@ -1,5 +1,5 @@
-//! The one assertion of these tests. A branch in which an assertion fails is dear to prove, so it is proved once, here,
-//! for values of any type; a test hands over what it found.
+//! The one assertion of these tests. Each `assert_eq!` is expensive to prove, so there is one, here, for values of any
+//! type; a test passes what it found and what it wants.
 
 use std::fmt::Debug;
 use std::process::Abort;

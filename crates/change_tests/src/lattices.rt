@@ -1,4 +1,4 @@
-//! Worked examples, each type at concrete types.
+//! Worked examples of each lattice, at concrete types.
 
 use super::asserts::assert_found;
 use lattice_core::{
@@ -19,8 +19,8 @@ fn holds(state: &Greatest<u32, u32>, key: u32, value: u32) -> bool {
     }
 }
 
-/// The first, joined with the second, where memory suffices for it. A body that only answers want of memory meets the
-/// contracts of `copy` and of `join`: with ample memory these calls succeed.
+/// The first, joined with the second, where memory suffices for it. A body that always returns `NoMemory` would meet
+/// the contracts of `copy` and of `join`: this shows that with enough memory the calls succeed.
 fn join_of<J: Join>(a: &J, b: &J) -> Option<J> {
     let mut whole = a.copy().ok()?;
     whole.join(b.copy().ok()?).ok()?;

@@ -1,7 +1,7 @@
 //! Tests of joins, lists in chunks, operations and changes, through the public functions of their crates.
 //!
-//! A crate of tests alone: the gate proves its tests over the libraries that it has proved already, where tests in a
-//! crate make it prove that crate twice.
+//! A crate of tests alone: CI proves these tests over libraries that it has proved already, while tests inside a crate
+//! would make it prove that crate twice.
 #![tactic(auto)]
 
 #[cfg(test)]

@@ -1,6 +1,7 @@
-//! Operations, their bodies and stamps: what is good, in which order they come, and copies, worked out by hand.
+//! Operations, their bodies and stamps: what is valid, how they are ordered, and copies, with expected values worked
+//! out by hand.
 //!
-//! Each test compares values of functions that have few exits: what a test lacks where memory is refused is none.
+//! Each test compares the results of small functions, which return `None` if memory is refused.
 
 use super::asserts::assert_found;
 use super::lattices::is_copied;

@@ -1,11 +1,11 @@
-//! Lists in an order of the caller's, kept in chunks, so that an item comes in or goes anywhere in about logarithmic
-//! time.
+//! Sorted lists, in an order that the caller gives, stored in chunks, so that inserting or removing an item at any
+//! place takes about logarithmic time.
 //!
 //! Its tests are in the crate `change_tests`.
 //!
-//! It is here since a change mostly has two patch sets and five votes, and sometimes 100,000. Not taken: `std`'s
-//! `BTreeMap`, whose leaves have room for fifteen; one `Vec`, in which an insertion moves all that follows; `smallvec`,
-//! which keeps short lists well and long ones as a `Vec` does.
+//! It is a crate of its own because a change usually has two patch sets and five votes, and sometimes 100,000. Not
+//! taken: `std`'s `BTreeMap`, whose leaves have room for fifteen; one `Vec`, in which an insertion moves all that
+//! follows; `smallvec`, which keeps short lists well and long ones as a `Vec` does.
 //!
 //! An example of its use:
 //!

@@ -26,7 +26,7 @@ pub fn any_peer_in<'a>(values: &Values<'a>, option: &str) -> Option<Option<PeerA
     Some(Some(peer))
 }
 
-/// Where an option has a site show itself, where it isn't left out; none where its word names no such place.
+/// The page address of an option, if it is given; `None` if its value is no such address.
 pub fn any_page_in<'a>(values: &Values<'a>, option: &str) -> Option<Option<PageAddress<'a>>>
     ensures { Finds (GivesAnyPage (rows_in values.now) option.now) result }
 {
@@ -37,8 +37,8 @@ pub fn any_page_in<'a>(values: &Values<'a>, option: &str) -> Option<Option<PageA
     Some(Some(page))
 }
 
-/// Where a word has a site show itself: at the path of a Unix socket where it has a slash, else at a port in decimal,
-/// from 0 to 65,535. Nothing where it is neither.
+/// The page address that a value names: the path of a Unix socket if it has a slash, else a port in decimal, from 0 to
+/// 65,535.
 fn page_of(word: &str) -> Option<PageAddress<'_>>
     ensures { Finds (NamesPage word.now) result }
 {
@@ -51,7 +51,7 @@ fn page_of(word: &str) -> Option<PageAddress<'_>>
     }
 }
 
-/// The addresses of an argument that has as many as there are; none where a word names none.
+/// The addresses of a repeatable argument; `None` if one of its values is no address.
 pub fn peers_in<'a>(
     alloc: Global,
     values: &Values<'a>,

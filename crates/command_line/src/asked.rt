@@ -1,8 +1,8 @@
-//! What the words of a command line may ask for.
+//! What a command line may ask for.
 
 use site_address::{HostPort, PeerAddress};
 
-/// What the words of a command line ask for.
+/// What a command line asks for.
 #[derive(Drop)]
 pub enum Asked<'a> {
     /// To run a command over files.
@@ -19,9 +19,9 @@ pub enum Asked<'a> {
     Help(String),
     /// The program's name and version, for the output.
     Version(String),
-    /// What is wrong with the words, for the error output.
+    /// The text of a usage error, for standard error.
     Usage(String),
-    /// Memory was refused while the words were read.
+    /// Memory was refused while the command line was parsed.
     NoMemory,
 }
 
@@ -93,13 +93,14 @@ pub enum Command<'a> {
 pub struct ServeWords<'a> {
     /// The gate file's name.
     pub gate: &'a str,
-    /// The addresses of the peers; one on another machine is only where a file of keys is named.
+    /// The addresses of the peers. If one is on another machine, a file of keys is named.
     pub peers: Vec<PeerAddress<'a>>,
-    /// The numbers of the sites whose operations it takes from its peers, beside its own; none stands for all.
+    /// The numbers of the sites whose operations it takes from its peers, beside its own; an empty list means all
+    /// sites.
     pub sites: Vec<u16>,
     /// The site's number.
     pub site: u16,
-    /// The start of what it takes in, from 1 to 4,294,967,294; none is only where a journal is named.
+    /// The start, from 1 to 4,294,967,294. If it is `None`, a journal is named.
     pub start: Option<u32>,
     /// The port that it listens at, where one is named; 0 for one that is free.
     pub port: Option<u16>,
@@ -110,27 +111,27 @@ pub struct ServeWords<'a> {
     pub hosts: Vec<HostPort<'a>>,
     /// Who may connect to the Unix sockets.
     pub mode: SocketMode,
-    /// The name of the file of the keys that it lets in, and that it dials with.
+    /// The name of the file of the keys that it accepts, and that it uses as a client.
     pub keys: Option<&'a str>,
-    /// How many threads look at its record for sessions, from 1 to 6.
+    /// How many worker threads answer sessions, from 1 to 6.
     pub workers: usize,
     /// How many milliseconds pass between two rounds of pulls, from 1 to 600,000.
     pub pause_ms: u64,
     /// After how many sessions it ends; 0 means no limit.
     pub sessions: u64,
-    /// How many milliseconds a session that has had no body taken in may be silent; 0 means no limit.
+    /// How many milliseconds a session that hasn't sent a body may be silent; 0 means no limit.
     pub idle_ms: u64,
     /// How many connections may be open at once, from 1 to 65,535.
     pub connections: usize,
-    /// Whether it hears `stop` and `reload` from the standard input, and stops at its end.
+    /// Whether it reads `stop` and `reload` from standard input, and stops at its end.
     pub until_input_ends: bool,
     /// What it prints of its verdicts.
     pub prints: Printing,
-    /// Whether its lines on the error output begin with the time.
+    /// Whether its lines on standard error begin with the time.
     pub log_time: bool,
     /// Where it shows itself to browsers, if it does.
     pub http: Option<PageAddress<'a>>,
-    /// The names by which browsers may call this machine, beside `localhost` and the addresses of the loopback.
+    /// The accepted host names, beside `localhost` and the loopback addresses.
     pub http_hosts: Vec<String>,
     /// The name of the snapshot to begin with.
     pub load: Option<&'a str>,
@@ -176,7 +177,7 @@ pub struct RecoverWords<'a> {
     pub journal: &'a str,
     /// The sites with the starts whose operations are left out.
     pub without: Vec<(u16, u32)>,
-    /// The greatest time of an operation that isn't left out; without it any time will do.
+    /// The greatest time of an operation that isn't left out; `None` means no limit.
     pub until: Option<u64>,
 }
 

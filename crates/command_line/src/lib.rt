@@ -1,9 +1,9 @@
-//! What the words of a command line ask for: a command with what its arguments say.
+//! What a command line asks for: a command with the values of its arguments, help, the version, or a usage error.
 //!
 //! Its tests are in the crate `words_tests`.
 //!
-//! It is a crate of its own so that what the words ask for is one enum with a contract. Not taken: `clap`'s matches in
-//! the hands of each command, which would look up arguments by name.
+//! It is a crate of its own so that a parsed command line is one enum with a contract. Not taken: passing `clap`'s
+//! matches to each command, which would look up arguments by name.
 //!
 //! An example of its use:
 //!

@@ -1,4 +1,4 @@
-//! Tests of the commands, over words, inputs and files. A crate of tests alone, as `record_tests` is.
+//! Tests of the commands, over arguments, inputs and files. A crate of tests alone, as `record_tests` is.
 #![tactic(auto)]
 
 #[cfg(test)]

@@ -33,8 +33,8 @@ fn kept_file(alloc: Global, kept: &str) -> OneFile<'_> {
     }
 }
 
-/// What merging two names prints on the output and on the error output, and the status. The file `kept` has one text,
-/// and the input another.
+/// What merging two names prints on standard output and standard error, and the exit status. The file `kept` has one
+/// text, and the input another.
 fn assert_merges(
     rt: &impl Abort,
     alloc: Global,

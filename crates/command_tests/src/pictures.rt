@@ -1,4 +1,4 @@
-//! Pictures of a record, and changes around which nothing can be drawn.
+//! Graphs of a record, and the refusal to draw around an unknown change.
 
 use super::reports::assert_prints;
 use std::alloc::Global;

@@ -1,4 +1,4 @@
-//! The program, over words, inputs and files.
+//! The program, over arguments, inputs and files.
 
 use super::asserts::assert_found;
 use byte_ends::{Drain, Ends, Source};
@@ -10,7 +10,7 @@ use std::process::Abort;
 /// What a test lacks where memory is refused that it counts on.
 pub const MEMORY: &str = "memory";
 
-/// What the program printed on its output and on its error output, and its status.
+/// What the program wrote to standard output and standard error, and its exit status.
 pub type Printed = (Vec<u8>, Vec<u8>, u8);
 
 /// What the program prints for these words.
@@ -26,7 +26,7 @@ pub fn printed_by<I: Source, N: Named>(
     (output.into_inner(), errors.into_inner(), status)
 }
 
-/// For what it was asked the program printed this on its output and on its error output, and ended with this status.
+/// For what it was asked the program wrote this to standard output and standard error, and ended with this exit status.
 pub fn assert_printed(
     rt: &impl Abort,
     asked: &str,
@@ -40,7 +40,7 @@ pub fn assert_printed(
     assert_found(rt, (asked, found), (asked, wanted));
 }
 
-/// What the program printed on its error output, and its status.
+/// What the program wrote to standard error, and its exit status.
 pub type Reported = (Vec<u8>, u8);
 
 /// What the program reports for these words to an output.

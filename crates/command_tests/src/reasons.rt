@@ -1,4 +1,4 @@
-//! Why items wait, worked out by hand, and questions that have no answer.
+//! What `why` prints, worked out by hand, and its refusals.
 
 use super::reports::assert_prints;
 use std::alloc::Global;

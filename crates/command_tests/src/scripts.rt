@@ -54,7 +54,7 @@ impl Named for NoFiles {
     }
 }
 
-/// What a script on the input prints on the output and on the error output, and the status.
+/// What a script on standard input prints on standard output and standard error, and the exit status.
 fn assert_plays(
     rt: &impl Abort,
     alloc: Global,
@@ -246,7 +246,7 @@ fn printed_for(alloc: Global, word: &str) -> Printed {
     )
 }
 
-/// Whether there is anything on the output and on the error output, and the status.
+/// Whether anything is on standard output and on standard error, and the exit status.
 fn is_printed(printed: &Printed) -> (bool, bool, u8) {
     (!printed.0.is_empty(), !printed.1.is_empty(), printed.2)
 }

@@ -20,7 +20,7 @@ fn script_of(rt: &impl Abort, alloc: Global, length: usize) -> Vec<u8> {
     script
 }
 
-/// Playing the script of a name writes this to the error output.
+/// Playing the script of a name writes this to standard error.
 fn assert_plays(
     rt: &impl Abort,
     alloc: Global,
@@ -65,7 +65,7 @@ fn real_files_are_read_by_name(rt: HostRuntime) -> Result<(), Fail> {
     Ok(())
 }
 
-/// Merging the snapshots of two names ends with this status, prints this, and writes this to the error output.
+/// Merging the snapshots of two names ends with this status, prints this, and writes this to standard error.
 fn assert_merges(
     rt: &impl Abort,
     alloc: Global,

@@ -1,10 +1,9 @@
-//! The program's commands and their arguments, and what `clap` makes of the words of a command line. Nothing else of
-//! the program names `clap`.
+//! The program's commands and their arguments, and how `clap` parses a command line. No other crate uses `clap`.
 //!
 //! Its tests are in the crate `words_tests`.
 //!
-//! It is a crate of its own so that only its proofs wait for those about `clap`. Not taken: its own reader of options,
-//! whose help and messages would differ from what people know.
+//! It is a crate of its own so that no other crate's proofs depend on those about `clap`. Not taken: a parser of its
+//! own, whose help and messages would differ from the usual ones.
 //!
 //! An example of its use:
 //!

@@ -11,7 +11,7 @@ use clap::error::ErrorKind;
 use std::alloc::Global;
 use std::convert::AsStr;
 
-/// What is wrong where no command is named.
+/// The usage error of a command line without a command.
 const NO_COMMAND: &str = "error: a command is missing\n\nFor more information, try '--help'.\n";
 
 /// What `clap` makes of words.
@@ -23,15 +23,15 @@ pub enum Parsed<'a> {
     Help(String),
     /// The program's name and version.
     Version(String),
-    /// What is wrong with the words.
+    /// The text of a usage error.
     Usage(String),
     /// Memory was refused.
     NoMemory,
 }
 
-/// Reads the words that follow the program's name, as `clap` matches them to the program's commands. All texts are
-/// `clap`'s but that of words without a command, for which `clap` has no error of its own. It costs O(bytes of the
-/// words).
+/// Parses the arguments after the program's name, as `clap` matches them to the program's commands. All texts are
+/// `clap`'s, except the usage error of a command line without a command, for which `clap` has none. It costs O(n) for n
+/// bytes of arguments.
 pub fn parse<'a, S: AsStr>(alloc: Global, words: &'a [S]) -> Parsed<'a>
     ensures { Parses (map S.text words.entry.now) result }
 {
@@ -58,7 +58,7 @@ fn command_in<'a>(alloc: Global, matches: ArgMatches<'a>) -> Parsed<'a>
     }
 }
 
-/// Help, the version, a fault of the words or want of memory, as `clap` says.
+/// The result for an error of `clap`: help, the version, a usage error, or refused memory.
 fn refused<'a>(alloc: Global, error: &clap::Error) -> Parsed<'a>
     ensures { IsRefused (kind_of error.now) result }
 {

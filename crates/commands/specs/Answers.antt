@@ -101,7 +101,7 @@ abbrev pub IsLeftSo : Bool → List Left → Item → Bool → List ℕ → Type
 IsLeftSo is_json out item is_ready answer =
     (is_ready ≡ false) × (left : Left) × Contains out left × (left.item ≡ item) × (answer ≡ out_as is_json left)
 
--- the verdict on the item, and its line
+-- whether the item is ready, and its line
 abbrev pub StandsSo : Bool → Judged → Item → Bool → List ℕ → Type 0
 StandsSo is_json verdicts item is_ready answer =
     ((is_ready ≡ true) × Contains verdicts.ready item × (answer ≡ ready_as is_json item))
@@ -112,7 +112,7 @@ IsStanding change set is_json is_ready rules state answer =
     (item : Item) × (verdicts : Judged) × IsItemAsked state change set item × AreVerdicts rules state verdicts
     × StandsSo is_json verdicts item is_ready answer
 
--- how the command ends of an item that is ready, or waits
+-- how `ready --item` ends: successfully for a ready item, with `Waits` for one that waits
 abbrev pub EndsItem : Bool → Ended → Type 0
 EndsItem is_ready (Ok done) = is_ready ≡ true
 EndsItem is_ready (Err Waits) = is_ready ≡ false
@@ -243,7 +243,7 @@ IsRecordHad None None old new = new ≡ old
 IsRecordHad (Some name) (Some state) old new = IsHad (record_input name) (SaysRecord state) old new
 IsRecordHad name state old new = ⊥
 
--- how a check ends that has so many warnings
+-- how `check` ends, given whether it is strict and the number of warnings
 abbrev pub EndsChecked : Bool → ℕ → Ended → Type 0
 EndsChecked is_strict count (Ok done) = is_strict ≡ true → count ≡ 0
 EndsChecked is_strict count (Err (Warnings found)) = (is_strict ≡ true) × (found ≡ count) × (0 < count)

@@ -1,4 +1,4 @@
--- What is done of what the words of a command line ask for, and the status that the program ends with.
+-- The effect of a parsed command line, and the exit status.
 use Rattle.std.specs.Prelude.{◌≡◌, ℕ, List, Option, Err, codes, string_bytes}
 use Rattle.command_line.specs.declared.asked.Asked.{Asked}
 use Rattle.command_line.specs.declared.asked.Asked.TheVariants.{Run, Serve, Recover, Events, Enqueue, Help, Version, Usage, NoMemory}
@@ -14,11 +14,11 @@ DoesPrint text (counts printed input files failed) (counts now_printed now_input
     (ended : Ended) × PrintsText text printed now_printed failed now_failed ended × Reports before after ended status
     × (now_input ≡ input) × (now_files ≡ files)
 
--- what is wrong with the words is written to the error output, and the status is 2; nothing is read or printed
+-- the text of a usage error is written to standard error, and the exit status is 2; nothing is read or printed
 abbrev pub DoesBlame : List ℕ → Counts → Counts → ErrorOutput → ErrorOutput → ℕ → Type 0
 DoesBlame text old new before after status = Shows text before after × (status ≡ 2) × (new ≡ old)
 
--- what is wrong with the words of a command that isn't over files
+-- the usage error of a command that isn't run here
 abbrev pub apart_text : List ℕ
 apart_text =
     codes "error: this command runs on the system's own sockets, clocks and files\n\nFor more information, try '--help'.\n"

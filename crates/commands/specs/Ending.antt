@@ -27,7 +27,7 @@ inputs_of (Check gate None is_strict is_json) = input gate_file gate.now ∷ []
 inputs_of (Check gate (Some snapshot) is_strict is_json) =
     input gate_file gate.now ∷ record_input snapshot.now ∷ []
 
--- of these texts the command prints this answer, and ends so once it is printed
+-- for these input texts the command prints this answer, and then ends like this
 abbrev pub IsAnswer : Command → List (List ℕ) → List ℕ → Ended → Type 0
 IsAnswer (Simulate script gate) (text ∷ gates) answer ended = IsSimulated text gates answer ended
 IsAnswer (Ready gate snapshot is_json) (one ∷ other ∷ []) answer ended =
@@ -48,7 +48,8 @@ IsAnswer (Check gate snapshot is_strict is_json) (text ∷ snapshots) answer end
     IsChecked text snapshots is_strict is_json answer ended
 IsAnswer command texts answer ended = ⊥
 
--- all of the answer was printed, and the command ends as it does; or the output failed, and a proper prefix was printed
+-- all of the answer was printed, and the command ends as its row says; or the output failed, and a proper prefix was
+-- printed
 abbrev pub Finishes : (List ℕ → Ended → Type 0) → ConsoleState → ConsoleState → Ended → Type 0
 Finishes IsTheAnswer old new ended =
     ((answer : List ℕ) × IsTheAnswer answer ended × IsPrinted answer old new)

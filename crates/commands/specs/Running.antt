@@ -1,4 +1,4 @@
--- How a command runs, what the error output is written of it, and the status that the program ends with.
+-- How a command runs, what is written to standard error, and the exit status.
 use Rattle.std.specs.Prelude.{◌≡◌, ◌<◌, ℕ, List, Option, Ok, Err, length, take}
 use Rattle.std.specs.Io.KnownBytes.{Appends}
 use Rattle.byte_ends.specs.Failures.{OneFailed}
@@ -30,9 +30,9 @@ pub record Runs (command : Command) (left : Option (List ℕ)) (files : Contents
   pub ends : Ends command before after ended
   pub leaves : console_counts after ≡ new
 
--- what is written, and the status: nothing and 0 of a command that was done, nothing and 3 where the item that is
--- asked for waits; its line and 1 of a command that was refused, or, where memory is refused for the line, the line of
--- that
+-- what is written to standard error, and the exit status: nothing and 0 after success, nothing and 3 if the item of
+-- `ready --item` waits, the line of the refusal and 1 after a refusal, or the line `NoMemory` if memory is refused for
+-- that line
 abbrev pub Reports : ErrorOutput → ErrorOutput → Ended → ℕ → Type 0
 Reports old new (Ok done) status = (new ≡ old) × (status ≡ 0)
 Reports old new (Err Waits) status = (new ≡ old) × (status ≡ 3)

@@ -111,7 +111,7 @@ fn checked_as(
     })
 }
 
-/// How a check ends that has so many warnings.
+/// How a check with so many warnings ends.
 fn end_of(is_strict: bool, warnings: usize) -> Result<(), Refusal<'static>>
     ensures { EndsChecked is_strict warnings result }
 {

@@ -1,13 +1,14 @@
-//! The commands but `serve`, `events`, `enqueue` and `recover`, under one law: their inputs are read and judged one
-//! after the other, and the answer is printed whole, or a proper prefix of it where the output failed.
+//! All commands except `serve`, `events`, `enqueue` and `recover`, under one law: the inputs are read and checked one
+//! after the other, and the answer is printed whole, or a proper prefix of it if the output failed.
 //!
 //! Its tests are in the crate `command_tests`.
 //!
-//! It is a crate of its own so that all commands keep one law, in which each is one row. Not taken: a contract for each
-//! command by itself, which would have to say anew which input is refused first.
+//! It is a crate of its own so that all commands meet one law, in which each is one row. Not taken: a contract for each
+//! command by itself, which would have to repeat which input is refused first.
 //!
-//! `run_words` does what the words of a command line ask for over any ends and files, and `run_asked` what was read of
-//! them: `run_command` runs a command; `print_text`, `report_usage` and `report` do what is asked for in place of one.
+//! `run_words` parses and runs a command line over any ends and files, and `run_asked` runs a parsed one: `run_command`
+//! runs a command; `print_text` prints help or the version, and `report_usage` and `report` write the line of a usage
+//! error or of a refusal.
 //!
 //! An example of its use:
 //!

@@ -1,4 +1,4 @@
-//! What commands make of a record that they read.
+//! The state of a record that a command read.
 
 ghost use Rattle.std.specs.Prelude.{◌≡◌, IfErr, IfOk};
 ghost use Rattle.state_core.specs.State.{state_of};

@@ -1,4 +1,4 @@
-//! Runs a command over any readers, writers and files, and prints what is asked for in place of one.
+//! Runs a command over any readers, writers and files, or prints help, the version or a usage error.
 
 ghost use Rattle.std.specs.Prelude.{◌≡◌, Err, MatchBool};
 ghost use Rattle.command_line.specs.declared.asked.Command.{Command};
@@ -20,21 +20,20 @@ use command_line::Command;
 use console::{Console, Named, Refusal, Streams, show, show_refusal};
 use std::alloc::Global;
 
-/// The status of a command that was done.
+/// The exit status of success.
 const DONE: u8 = 0;
 
-/// The status of a refusal.
+/// The exit status of a refusal.
 const REFUSED: u8 = 1;
 
-/// The status of a usage error.
+/// The exit status of a usage error.
 const MISUSED: u8 = 2;
 
-/// The status where the item that is asked for waits.
+/// The exit status of `ready --item` if the item waits.
 const WAITING: u8 = 3;
 
-/// Runs a command. The file name `-` reads `input`. The answer is the exit status: 0 for success, 1 for a refusal, of
-/// which one line is written to `errors`, 3 where the item that is asked for waits. What the error output can't take is
-/// lost.
+/// Runs a command. The file name `-` reads `input`. Returns the exit status: 0 for success; 1 for a refusal, with one
+/// line on `errors`; 3 if the item of `ready --item` waits. If `errors` fails the line is lost.
 pub fn run_command<I: Source, O: Drain, E: Drain, N: Named>(
     alloc: Global,
     command: &Command<'_>,
@@ -74,7 +73,7 @@ fn run_over<'n, I: Source, O: Drain, N: Named>(
     do_command(alloc, command, &mut console)
 }
 
-/// Does what a command asks for.
+/// Runs a command over a console.
 fn do_command<'n, C: Console>(
     alloc: Global,
     command: &Command<'n>,
@@ -127,8 +126,8 @@ fn do_command<'n, C: Console>(
     }
 }
 
-/// Prints a text, as help and the version are. The answer is the exit status: 0, or 1 where the output failed, of which
-/// one line is written to `errors`. What the error output can't take is lost.
+/// Prints a text, such as help or the version. Returns the exit status: 0, or 1 if the output failed, with one line on
+/// `errors`. If `errors` fails the line is lost.
 pub fn print_text<O: Drain, E: Drain>(
     alloc: Global,
     text: &str,
@@ -154,8 +153,8 @@ fn written<O: Drain>(text: &str, output: &mut O) -> Result<(), Refusal<'static>>
     }
 }
 
-/// Writes to the error output what is wrong with the words, and answers the status of that, 2. What the error output
-/// can't take is lost.
+/// Writes the text of a usage error to standard error, and returns the exit status, 2. If standard error fails the text
+/// is lost.
 pub fn report_usage<E: Drain>(text: &str, errors: &mut E) -> u8
     ensures shown { Shows text.now (error_output (E.taken errors.old) (E.failed errors.old))
         (error_output (E.taken errors.new) (E.failed errors.new)) }
@@ -165,8 +164,8 @@ pub fn report_usage<E: Drain>(text: &str, errors: &mut E) -> u8
     MISUSED
 }
 
-/// Writes to the error output why a command wasn't done, and answers the status; of an item that waits nothing is
-/// written, and the status is 3. What the error output can't take is lost.
+/// Writes the line of a refusal to standard error, and returns the exit status; for an item that waits nothing is
+/// written, and the status is 3. If standard error fails the line is lost.
 pub fn report<E: Drain>(alloc: Global, ended: &Result<(), Refusal<'_>>, errors: &mut E) -> u8
     ensures { Reports (error_output (E.taken errors.old) (E.failed errors.old))
         (error_output (E.taken errors.new) (E.failed errors.new)) ended.now result }
@@ -177,7 +176,7 @@ pub fn report<E: Drain>(alloc: Global, ended: &Result<(), Refusal<'_>>, errors: 
     }
 }
 
-/// The same of a command that was refused, or whose item waits.
+/// The same for a refusal, which may be that an item waits.
 fn report_refusal<E: Drain>(alloc: Global, refusal: &Refusal<'_>, errors: &mut E) -> u8
     ensures { Reports (error_output (E.taken errors.old) (E.failed errors.old))
         (error_output (E.taken errors.new) (E.failed errors.new)) (Err refusal.now) result }
@@ -189,7 +188,7 @@ fn report_refusal<E: Drain>(alloc: Global, refusal: &Refusal<'_>, errors: &mut E
     REFUSED
 }
 
-/// Whether it is that the item waits that is asked for.
+/// Whether the refusal is `Waits`.
 fn is_waiting(refusal: &Refusal<'_>) -> bool
     ensures { MatchBool result (refusal.now ≡ Refusal.Waits) (¬ (refusal.now ≡ Refusal.Waits)) }
 {

@@ -1,4 +1,4 @@
-//! Does what the words of a command line ask for, over any readers, writers and files.
+//! Parses and runs a command line, over any readers, writers and files.
 
 ghost use Rattle.std.specs.Prelude.{map};
 ghost use Rattle.command_line.specs.Asking.{WordsAsk};
@@ -14,12 +14,12 @@ use console::{Named, Refusal};
 use std::alloc::Global;
 use std::convert::AsStr;
 
-/// What is wrong where a command is asked for that isn't one over files.
+/// The usage error of a command that isn't run here.
 const APART: &str =
     "error: this command runs on the system's own sockets, clocks and files\n\nFor more information, try '--help'.\n";
 
-/// Reads the words that follow the program's name, and does what they ask for, as `run_asked` does. It is the whole
-/// program but `serve`, `events`, `enqueue` and `recover`, which are usage errors here.
+/// Parses the arguments after the program's name, and runs them, as `run_asked` does. It is the whole program except
+/// `serve`, `events`, `enqueue` and `recover`, which are usage errors here.
 pub fn run_words<S: AsStr, I: Source, O: Drain, E: Drain, N: Named>(
     alloc: Global,
     words: &[S],
@@ -39,9 +39,9 @@ pub fn run_words<S: AsStr, I: Source, O: Drain, E: Drain, N: Named>(
     run_asked(alloc, asked, input, output, errors, files)
 }
 
-/// Does what words ask for: runs a command over files, as `run_command` does; prints help or the version, as
-/// `print_text` does; or reports what is wrong with the words, as `report_usage` does, or that memory was refused. A
-/// command that isn't over files is a usage error here. The answer is the exit status.
+/// Runs a parsed command line: runs a command over files, as `run_command` does; prints help or the version, as
+/// `print_text` does; or reports a usage error, as `report_usage` does, or refused memory. `serve`, `events`, `enqueue`
+/// and `recover` are usage errors here. Returns the exit status.
 pub fn run_asked<I: Source, O: Drain, E: Drain, N: Named>(
     alloc: Global,
     asked: Asked<'_>,

@@ -1,4 +1,5 @@
--- The inputs of a command, read and judged one after the other: each kind's limit, what it has to be, and its refusals.
+-- The inputs of a command, read and checked one after the other: the limit of each kind, when it is valid, and its
+-- refusals.
 use Rattle.std.specs.Prelude.{◌≡◌, ◌⊎◌, ℕ, List, [], ◌∷◌, IfSome, IsUtf8, Option, None, Some, if◌then◌else◌}
 use Rattle.std.specs.Borrow.{Bor}
 use Rattle.byte_ends.specs.Lines.{lines_of}
@@ -64,7 +65,7 @@ pub record IsPulled (name : List ℕ) (old new : ConsoleState) (text : List ℕ)
   pub whole : IfSome (record_at old.sites address) (λ known. text ≡ known)
   pub after : new ≡ old
 
--- the text of an input of this name is had
+-- the text of an input of this name was read
 abbrev pub IsTextOf : Kind → List ℕ → ConsoleState → ConsoleState → List ℕ → Type 0
 IsTextOf pulled name old new text = IsPulled name old new text
 IsTextOf kind name old new text = IsRead name (limit_of kind) old new text
@@ -77,7 +78,7 @@ IsSound script_file text = Unit {0}
 IsSound snapshot_file text = (ops : List Operation) × SaysOperations (lines_of text) ops
 IsSound pulled text = (ops : List Operation) × SaysOperations (lines_of text) ops
 
--- how an input is refused that isn't so, or for which memory was refused
+-- how an invalid input is refused, or one for which memory was refused
 abbrev pub IsFlawed : Kind → List ℕ → List ℕ → Refusal → Type 0
 IsFlawed gate_file name text refusal = (fault : GateFault) × (refusal ≡ Gate fault) × IsRefusalOf text fault
 IsFlawed message_file name text refusal = IsNoText name refusal × (¬ IsUtf8 text)
@@ -92,7 +93,7 @@ IsUnpulled name (NoAddress named) = (named.now ≡ name) × ((address : Address)
 IsUnpulled name (Peer fault address) = NamesSite name address × IsPullFault fault
 IsUnpulled name refusal = ⊥
 
--- the input is had, and its text is so
+-- the input was read, is valid, and its text meets this condition
 abbrev pub IsHad : Input → (List ℕ → Type 0) → ConsoleState → ConsoleState → Type 0
 IsHad input IsSo old new = (text : List ℕ) × IsTextOf input.kind input.name old new text × IsSo text
 
@@ -112,7 +113,7 @@ IsRefusedAs kind name old new refusal =
 abbrev pub IsRefused : Input → ConsoleState → ConsoleState → Refusal → Type 0
 IsRefused input old new refusal = IsRefusedAs input.kind input.name old new refusal
 
--- all inputs are had, one after the other, and these are their texts
+-- all inputs were read, one after the other, are valid, and have these texts
 abbrev pub AreHad : List Input → ConsoleState → List (List ℕ) → ConsoleState → Type 0
 AreHad [] old [] new = new ≡ old
 AreHad (input ∷ inputs) old (text ∷ texts) new =
@@ -120,7 +121,7 @@ AreHad (input ∷ inputs) old (text ∷ texts) new =
     × AreHad inputs mid texts new
 AreHad inputs old texts new = ⊥
 
--- the first input that can't be had is refused, and those after it aren't read
+-- the first input that can't be read or is invalid is refused, and those after it aren't read
 abbrev pub IsFirstRefused : List Input → ConsoleState → ConsoleState → Refusal → Type 0
 IsFirstRefused [] old new refusal = ⊥
 IsFirstRefused (input ∷ inputs) old new refusal =

@@ -69,6 +69,6 @@ words_of (Warnings count) = codes "Warnings " ++ decimal count
 words_of Output = codes "WriteFault"
 words_of Memory = codes "NoMemory"
 
--- one line of the error output
+-- one line on standard error
 abbrev pub refusal_line : Refusal → List ℕ
 refusal_line refusal = line_of (part_of refusal) (number_of refusal) (words_of refusal)

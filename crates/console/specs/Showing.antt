@@ -1,4 +1,4 @@
--- What the error output is written.
+-- What is written to standard error.
 use Rattle.std.specs.Prelude.{◌≡◌, ◌⊎◌, ◌<◌, ◌++◌, ℕ, List, Option, Result, Ok, Err, IfOk, MatchResult, codes, decimal}
 use Rattle.std.specs.Prelude.{length, take}
 use Rattle.std.proofs.Common.{inl, inr, subst}
@@ -9,7 +9,7 @@ use Rattle.refusal_line.specs.declared.part.Part.TheVariants.{Journal}
 use Rattle.console.specs.Refusals.{refusal_line}
 use Rattle.console.specs.declared.refusals.Refusal.TheVariants.{Memory}
 
--- the error output: what it has taken, where that is known, and how many of its calls failed
+-- standard error: the bytes that it has taken, if they are known, and how many writes failed
 pub data ErrorOutput : Type 0 where
   error_output : Option (List ℕ) → ℕ → ErrorOutput
 
@@ -19,7 +19,7 @@ Shows text (error_output old failed) (error_output new now_failed) =
     (Appends old new text × (now_failed ≡ failed))
     ⊎ ((count : ℕ) × (count < length text) × Appends old new (take count text) × OneFailed failed now_failed)
 
--- the same of a line; or, where memory is refused for it, of the line of that
+-- the same of a line, or of the line `NoMemory` if memory is refused for it
 abbrev pub ShowsLine : List ℕ → ErrorOutput → ErrorOutput → Type 0
 ShowsLine line old new = Shows line old new ⊎ Shows (refusal_line Memory) old new
 
@@ -27,7 +27,7 @@ ShowsLine line old new = Shows line old new ⊎ Shows (refusal_line Memory) old 
 abbrev pub torn_line : ℕ → List ℕ
 torn_line torn = line_of Journal 6 (codes "Torn " ++ decimal torn)
 
--- a line that is written as it was made, or that of want of memory in its place, is written so
+-- writing the line, or the line `NoMemory` in its place, meets `ShowsLine`
 pub shows_line : {T E : Type 0} (bytes : T → List ℕ) (line : Result T E) (text : List ℕ) (old new : ErrorOutput)
     → IfOk line (λ made. bytes made ≡ text)
     → MatchResult line (λ made. Shows (bytes made) old new) (λ _. Shows (refusal_line Memory) old new)

@@ -1,14 +1,14 @@
-//! The console of a command: its input, its output and the files that it names, the inputs that it reads from there,
-//! and how it is refused, as the error output says.
+//! The console of a command: its input, its output, and the files and running sites that it names, as one value; how
+//! the inputs are read and limited; and the refusals that are written to standard error.
 //!
 //! Its tests are in the crate `command_tests`.
 //!
 //! It is a crate of its own so that the inputs of all commands are read, limited and refused in one way. Not taken:
-//! `std`'s streams in the hands of each command, of which no contract could say that one was read before the other.
+//! `std`'s streams as separate arguments, with which no contract could say that one was read before the other.
 //!
-//! The name `-` is that of the input, which is read once: a second `-` is empty. Each kind of input has its limit. A
-//! script, a gate file or a message is judged once it is read, and a snapshot as it is read, in blocks. The name
-//! `@ADDRESS` of a record is that of a running site, from which the record is pulled.
+//! The name `-` means standard input, which is read once: a second `-` is empty. Each kind of input has a size limit. A
+//! script, a gate file or a message is parsed once it is read, and a snapshot while it is read, in blocks. In place of
+//! a snapshot, the name `@ADDRESS` means the record of the running site at that address, which is pulled.
 //!
 //! An example of its use:
 //!

@@ -36,11 +36,11 @@ pub enum Refusal<'n> {
     NoItem(u32, Option<u32>),
     /// The item that is asked for waits; its line was printed, which says why.
     Waits,
-    /// There are this many warnings, of which none is let pass.
+    /// There are this many warnings, and `--strict` was given.
     Warnings(usize),
     /// The output failed.
     Output,
-    /// Memory was refused where no other part says so.
+    /// Memory was refused, and no other part reports it.
     Memory,
 }
 

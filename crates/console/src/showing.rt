@@ -1,4 +1,4 @@
-//! Writes lines to the error output.
+//! Writes lines to standard error.
 
 ghost use Rattle.std.specs.Prelude.{◌≡◌, ◌<◌, IfOk, MatchResult, string_bytes};
 ghost use Rattle.console.specs.Refusals.{refusal_line};
@@ -9,8 +9,8 @@ use byte_ends::{Drain, write_all};
 use refusal_line::{Part, memory_line, refusal_line};
 use std::alloc::{AllocError, Global};
 
-/// Writes the line of a refusal to the error output, or that of want of memory, where memory is refused for it. What
-/// the error output can't take is lost.
+/// Writes the line of a refusal to standard error, or the line `NoMemory` if memory is refused for it. If standard
+/// error fails the line is lost.
 pub fn show_refusal<E: Drain>(alloc: Global, refusal: &Refusal, errors: &mut E)
     ensures { ShowsLine (refusal_line refusal.now)
         (error_output (E.taken errors.old) (E.failed errors.old))
@@ -19,8 +19,8 @@ pub fn show_refusal<E: Drain>(alloc: Global, refusal: &Refusal, errors: &mut E)
     show_line(&refusal.line(alloc), errors);
 }
 
-/// Writes a line to the error output, or that of want of memory, where memory was refused for it. What the error output
-/// can't take is lost.
+/// Writes a line to standard error, or the line `NoMemory` if memory was refused for it. If standard error fails the
+/// line is lost.
 pub fn show_line<E: Drain>(line: &Result<String, AllocError>, errors: &mut E)
     ensures { let old = error_output (E.taken errors.old) (E.failed errors.old) in
         let new = error_output (E.taken errors.new) (E.failed errors.new) in
@@ -32,7 +32,7 @@ pub fn show_line<E: Drain>(line: &Result<String, AllocError>, errors: &mut E)
     }
 }
 
-/// Writes a text to the error output. What that can't take is lost.
+/// Writes a text to standard error. If that fails the text is lost.
 pub fn show<E: Drain>(text: &[u8], errors: &mut E)
     ensures { Shows text.now (error_output (E.taken errors.old) (E.failed errors.old))
         (error_output (E.taken errors.new) (E.failed errors.new)) }
@@ -40,8 +40,8 @@ pub fn show<E: Drain>(text: &[u8], errors: &mut E)
     let _ = write_all(errors, text);
 }
 
-/// Writes to the error output how many bytes of a torn line were left out, if any, or the line of want of memory, where
-/// memory is refused for that. What the error output can't take is lost.
+/// Writes to standard error how many bytes of a torn line were left out, if any, or the line `NoMemory` if memory is
+/// refused for that. If standard error fails the line is lost.
 pub fn show_torn<E: Drain>(alloc: Global, torn: usize, errors: &mut E)
     ensures whole { torn ≡ 0 → errors.new ≡ errors.old }
     ensures torn { 0 < torn → ShowsLine (torn_line torn)

@@ -1,4 +1,4 @@
-//! For tests: what is done to a change, in a few words, as drafts and as operations.
+//! For tests: short notations for drafts and operations.
 //!
 //! An example of its use:
 //!

@@ -79,7 +79,7 @@ written_on lines more reports others old mid new one two = record {
   none_unreported = two.none_unreported ∙ one.none_unreported;
 }
 
--- these groups were handed over, and this is held; so many lines were counted
+-- so far the groups that came were handed over, this is held, and this many lines were counted
 pub record SoFar (pipe : Pipe) (earlier : List Item) (before now : KnownEnds) (rest : List ℕ) (held : ReadySoFar)
     (number index : ℕ) : Type 0 where
   pub came : List ℕ
@@ -128,7 +128,7 @@ lines_counted limit bytes number count unread reads fault counted breaks = recor
   ];
 }
 
--- what was ended, as what was read and written before the group is kept
+-- the ends as before the group, but with what is left of the input after it
 before_group : KnownEnds → KnownEnds → KnownEnds
 before_group now next = record { left = next.left; unread = now.unread; outputs = now.outputs }
 
@@ -184,7 +184,7 @@ module _ (pipe : Pipe) (earlier : List Item) (before now : KnownEnds) (rest : Li
     refl,
   )
 
-  -- the next group isn't handed over, and why
+  -- the next group isn't handed over for some reason, so handing over ends early
   pub stops_early : (next : KnownEnds) (more : List ℕ) (limit : ℕ) (fault : EnqueueFault) → limit ≡ site_line_limit
       → Consumes now.left next.left more → StopsAt pipe limit (rest ++ more) held number now next fault
       → EndsEarly pipe earlier before next fault

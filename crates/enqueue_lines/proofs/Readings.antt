@@ -1,4 +1,4 @@
--- However a template is cut into pieces, the same is written.
+-- All readings of a template write the same for the same values.
 use Rattle.std.proofs.Common.{◌≡◌, ◌∙◌, ◌+◌, ◌++◌, ◌∷◌, [], ℕ, zero, suc, List, All, refl, sym, ap, arith}
 use Rattle.std.proofs.Common.{append_assoc, append-nil, codes, cond, get_or}
 use Rattle.std.proofs.Common.{Bool, true, false, eq-eqb}

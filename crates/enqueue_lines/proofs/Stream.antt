@@ -53,7 +53,7 @@ says_more first came more held rest lines others one two = record {
   each = zip_append SaysPiece one.pieces two.pieces lines others one.each two.each;
 }
 
--- more bytes after the rest
+-- further bytes are added to the rest
 pub says_on : (bytes rest more : List ℕ) (lines : List Said) → SaysLines bytes rest lines
     → SaysLines (bytes ++ more) (rest ++ more) lines
 says_on bytes rest more lines says = record {
@@ -78,7 +78,7 @@ no_pieces rest (piece ∷ pieces) lines each e =
     let bad : byte ≡ [] = last.1 in
     cc
 
--- no bytes say no lines
+-- no bytes have no lines
 pub nothing_says : (bytes rest : List ℕ) (lines : List Said) → bytes ≡ [] → SaysLines bytes rest lines
     → (lines ≡ []) × (rest ≡ [])
 nothing_says bytes rest lines none says = no_pieces rest says.pieces lines says.each (sym none ∙ says.whole)
@@ -174,7 +174,7 @@ module _ (first came more held rest : List ℕ) (old new : List Said) (count now
   group_stops step is steps counts =
       stopping (subst (StepsOn (held ++ more) rest old new) is steps) (subst (CountsStep count now) is counts)
 
-  -- the next line isn't had
+  -- the next line can't be read
   pub group_breaks : (limit before number unread reads : ℕ) (fault : EnqueueFault)
       → number ≡ next_number (counted_on before count) → LacksLine limit (held ++ more) number unread reads fault
       → BreaksGroup limit (first ++ (came ++ more)) before unread reads fault

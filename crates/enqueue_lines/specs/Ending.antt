@@ -1,4 +1,5 @@
--- How handing over ends: at the end of the input, or before it, with what comes of the group that isn't handed over.
+-- How handing over ends: at the end of the input, or early, with the reason and with what was written of the group at
+-- fault.
 use Rattle.std.specs.Prelude.{◌≡◌, ◌⊎◌, ◌≤◌, ◌<◌, ◌+◌, ℕ, Bool, true, false, List, [], Option, Result}
 use Rattle.std.specs.Prelude.{Ok, Err, All, length, take}
 use Rattle.std.specs.Io.KnownBytes.{Appends, IsAtEnd}
@@ -26,17 +27,17 @@ site_line_limit = 4096
 abbrev pub next_number : ℕ → ℕ
 next_number before = counted_on before 1
 
--- ---- a line that isn't had
+-- ---- a line that can't be read
 
--- the bytes begin with a line that says nothing that a site says, or with more bytes than a line may have
+-- the bytes begin with a line that no site prints, or with more bytes than a line may have
 abbrev pub BeginsBadly : ℕ → List ℕ → Type 0
 BeginsBadly limit bytes =
     ((piece : List ℕ) × (later : List ℕ) × BeginsWithLine limit bytes piece later
     × ((said : Said) → NumbersFit said → ¬ SaysPiece piece said))
     ⊎ IsTooLong limit bytes
 
--- why the line of this number, with which these bytes would begin, isn't had: it is a bad one, a read of the input
--- failed, or memory was refused
+-- why the line with this number, at the beginning of these bytes, can't be read: it is bad, a read of the input failed,
+-- or memory was refused
 abbrev pub LacksLine : ℕ → List ℕ → ℕ → ℕ → ℕ → EnqueueFault → Type 0
 LacksLine limit bytes number unread reads (BadLine told) =
     (told ≡ number) × BeginsBadly limit bytes × (reads ≡ unread)
@@ -50,8 +51,7 @@ LacksLine limit bytes number unread reads (BadHanded told) = ⊥
 
 -- ---- a group that isn't handed over
 
--- some lines of a group came, none of which ends it, and the line after them isn't had; or so many lines came that they
--- can't be counted
+-- some lines of a group came, none of which ends it, and the next line can't be read, or couldn't be counted
 pub record BreaksGroup (limit : ℕ) (bytes : List ℕ) (before unread reads : ℕ) (fault : EnqueueFault) : Type 0 where
   pub lines : List Said
   pub after : List ℕ
@@ -106,8 +106,8 @@ pub record BreaksWriting (pipe : Pipe) (bytes : List ℕ) (held : ReadySoFar) (o
   pub fits : Fits held.ready (told_by group.lines) group.ready
   pub broken : BreaksItems pipe (fresh held (ready_then held.ready group)) old new
 
--- why the next group, with which these bytes would begin, isn't handed over, after so many lines: nothing of it was
--- written, but where writing broke off
+-- why the next group, which begins these bytes after so many lines, isn't handed over: nothing of it was written,
+-- unless a write failed
 abbrev pub StopsAt : Pipe → ℕ → List ℕ → ReadySoFar → ℕ → KnownEnds → KnownEnds → EnqueueFault → Type 0
 StopsAt pipe limit bytes held before old new (BadLine number) =
     (new.outputs ≡ old.outputs) × BreaksGroup limit bytes before old.unread new.unread (BadLine number)
@@ -125,8 +125,8 @@ StopsAt pipe limit bytes held before old new (BadHanded number) = ⊥
 
 -- ---- the law of an end
 
--- it ended early with this fault: groups were handed over, after which the ends were as at this moment, and of the
--- bytes behind them, the rest, no further group was, for this cause
+-- handing over ended early with this fault: groups were handed over up to a moment, and the next one, with which the
+-- rest begins, wasn't, for this reason
 pub record EndsEarly (pipe : Pipe) (earlier : List Item) (old new : KnownEnds) (fault : EnqueueFault) : Type 0 where
   pub mid : KnownEnds
   pub rest : List ℕ
@@ -135,12 +135,12 @@ pub record EndsEarly (pipe : Pipe) (earlier : List Item) (old new : KnownEnds) (
   pub stops : StopsAt pipe site_line_limit rest (held_after (starting earlier) hands.prints.groups)
       (length (all_say hands.prints.groups)) mid new fault
 
--- all groups were handed over, and there is no more; or it ends early
+-- all groups were handed over, and the input has ended; or handing over ended early
 abbrev pub HandsAll : Pipe → List Item → KnownEnds → KnownEnds → Result (Unit {0}) EnqueueFault → Type 0
 HandsAll pipe earlier old new (Ok done) = HandsOver pipe earlier old new [] × IsAtEnd new.left
 HandsAll pipe earlier old new (Err fault) = EndsEarly pipe earlier old new fault
 
--- ---- what the parts of a step answer
+-- ---- the contracts of the parts of a step
 
 -- what the next line says, if there is one
 abbrev pub SaysNext : ℕ → List ℕ → List ℕ → ℕ → ℕ → ℕ → Result (Option Said) EnqueueFault → Type 0
@@ -177,7 +177,7 @@ abbrev pub SendsTexts : List ℕ → List ℕ → KnownOutputs → KnownOutputs 
 SendsTexts lines reports old new (Ok done) = WritesTexts lines reports old new
 SendsTexts lines reports old new (Err fault) = (fault ≡ WriteFault) × BreaksTexts lines reports old new
 
--- what there is to write of items was written; or writing broke off, or memory was refused
+-- the texts of these items were written; or writing broke off, or memory was refused
 abbrev pub SendsItems : Pipe → List Item → KnownOutputs → KnownOutputs → Result (Unit {0}) EnqueueFault → Type 0
 SendsItems pipe items old new (Ok done) = WritesItems pipe items old new
 SendsItems pipe items old new (Err fault) =
@@ -204,7 +204,7 @@ abbrev pub Gives : Pipe → GroupTold → ℕ → ℕ → ReadySoFar → ReadySo
 Gives pipe told ready number held next old new (Ok more) = IsGiven pipe told ready held next old new more
 Gives pipe told ready number held next old new (Err fault) = IsNotGiven pipe told ready number held old new fault
 
--- the next group was handed over; or there is none; or why it isn't
+-- the next group was handed over; or there is none; or this is why it can't be handed over
 abbrev pub HandsGroup : Pipe → ℕ → List ℕ → List ℕ → ℕ → ℕ → ReadySoFar → ReadySoFar → KnownEnds → KnownEnds
     → Result Bool EnqueueFault → Type 0
 HandsGroup pipe limit bytes rest number numbered held next old new (Ok true) =

@@ -15,7 +15,7 @@ abbrev pub IsNoItem : ℕ → List ℕ → EnqueueFault → Type 0
 IsNoItem number line (BadHanded told) = (told ≡ number) × ((item : Item) → IsShortItem item → ¬ IsItemLine line item)
 IsNoItem number line fault = fault ≡ NoMemory
 
--- a line, counted from 1, is no item, and each line before it is one; or memory was refused
+-- the line with this number, from 1, is the first that is no item; or memory was refused
 abbrev pub IsRefusedHanded : List (List ℕ) → EnqueueFault → Type 0
 IsRefusedHanded lines (BadHanded number) =
     (line : List ℕ) × (0 < number) × (slice_get lines (number - 1) ≡ Some line) × IsNoItem number line (BadHanded number)

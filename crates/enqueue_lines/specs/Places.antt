@@ -39,8 +39,7 @@ pub record ArePlacesOfRows (lines : List (List ℕ)) (places : BTreeMap ℕ Chan
   pub each : All IsTold rows
   pub placed : (change : ℕ) → known_place places change ≡ last_place rows change
 
--- the line of this number, from 1, says nothing, and each line before it is a row, or ends an answer; or memory was
--- refused
+-- the line with this number, from 1, is the first that is neither a row nor the end of an answer; or memory was refused
 abbrev pub IsRefusedQuery : List (List ℕ) → EnqueueFault → Type 0
 IsRefusedQuery lines (BadQuery number) =
     (line : List ℕ) × (0 < number) × (slice_get lines (number - 1) ≡ Some line) × Tells line Other

@@ -89,14 +89,14 @@ pub record PrintsGroups (pipe : Pipe) (earlier : List Item) (bytes rest lines re
   pub lines_are : lines ≡ item_lines pipe (handed_by (starting earlier) groups)
   pub reports_are : reports ≡ report_lines pipe (handed_by (starting earlier) groups)
 
--- what both outputs took, where that is known, and how many writes of each failed
+-- what both outputs have taken, if that is known, and how many writes to each failed
 pub record KnownOutputs : Type 0 where
   pub printed : Option (List ℕ)
   pub unprinted : ℕ
   pub reported : Option (List ℕ)
   pub unreported : ℕ
 
--- what an input has left, where that is known, how many of its reads failed, and both outputs
+-- what is left of the input, if that is known, how many of its reads failed, and both outputs
 pub record KnownEnds : Type 0 where
   pub left : Option (List ℕ)
   pub unread : ℕ
@@ -109,8 +109,8 @@ pub record WritesTexts (lines reports : List ℕ) (old new : KnownOutputs) : Typ
   pub none_unprinted : new.unprinted ≡ old.unprinted
   pub none_unreported : new.unreported ≡ old.unreported
 
--- these bytes came in between, whose groups were handed over, and after which there is this rest; no read and no write
--- failed
+-- between the two states these bytes were read: whole groups, which were handed over, and then this rest; no read or
+-- write failed
 pub record HandsOver (pipe : Pipe) (earlier : List Item) (old new : KnownEnds) (rest : List ℕ) : Type 0 where
   pub came : List ℕ
   pub lines : List ℕ
@@ -155,11 +155,11 @@ with_end lines (Some ready) out = lines ++ End ready out ∷ []
 abbrev pub most_lines : ℕ
 most_lines = 2 ^ 64 - 1
 
--- so many lines more were counted
+-- the count after so many further lines
 abbrev pub counted_on : ℕ → ℕ → ℕ
 counted_on before more = min (before + more) most_lines
 
--- these lines came, of which those that say something are kept, and so many were counted
+-- these lines came; those that say something are kept, and all of them are counted
 pub record GroupComes (bytes rest : List ℕ) (kept : List Said) (count : ℕ) (ended : Option ℕ) : Type 0 where
   pub lines : List Said
   pub out : ℕ
@@ -168,7 +168,7 @@ pub record GroupComes (bytes rest : List ℕ) (kept : List Said) (count : ℕ) (
   pub kept_is : told_by kept ≡ told_by lines
   pub counted : count ≡ counted_on 0 (length (with_end lines ended out))
 
--- what items are handed over with was written
+-- the lines and the reports of these items were written
 abbrev pub WritesItems : Pipe → List Item → KnownOutputs → KnownOutputs → Type 0
 WritesItems pipe items old new = WritesTexts (item_lines pipe items) (report_lines pipe items) old new
 
@@ -185,7 +185,7 @@ pub record GroupIsHanded (pipe : Pipe) (bytes rest : List ℕ) (number numbered 
   pub none_unread : after.unread ≡ before.unread
   pub numbered_is : numbered ≡ counted_on number (length (group_says group))
 
--- there is no group any more, nor any line or part of one
+-- no further group has begun: no line or part of one is left
 pub record NoGroupIsLeft (bytes : List ℕ) (before after : KnownEnds) : Type 0 where
   pub says : SaysLines bytes [] []
   pub end : IsAtEnd after.left

@@ -45,7 +45,7 @@ abbrev pub IsPlainPart : Part → Type 0
 IsPlainPart (text plain) = LacksByte 123 plain
 IsPlainPart (field named) = Unit {0}
 
--- these pieces are how a text is read: they spell it, and no text of theirs has an open brace
+-- the pieces are a reading of the text: they spell it, and none of their texts has an open brace
 pub record Reads (whole : List ℕ) (parts : List Part) : Type 0 where
   pub spelled : whole ≡ spells parts
   pub plain : All IsPlainPart parts
@@ -103,8 +103,8 @@ IsWrongBrace after (UnknownField name) =
     × ((named : Field) → ¬ (name.now ≡ name_of named))
 IsWrongBrace after NoMemory = ⊥
 
--- the text begins with pieces, of which no text has an open brace, and after which comes the first brace that isn't
--- right; or memory was refused
+-- the text begins with pieces, none of whose texts has an open brace, and then has the first brace that is wrong; or
+-- memory was refused
 abbrev pub IsRefusedTemplate : List ℕ → TemplateFault → Type 0
 IsRefusedTemplate whole fault =
     ((parts : List Part) × (after : List ℕ) × (whole ≡ spells parts ++ codes "{" ++ after) × IsWrongBrace after fault

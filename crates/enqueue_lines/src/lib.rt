@@ -1,14 +1,15 @@
-//! The lines that hand items to Zuul: of what a site prints, line by line, a command for each item that becomes ready.
+//! The lines that hand items to Zuul: reads what a site prints, and writes a command for each item that becomes ready.
 //!
 //! Its tests are in the crate `enqueue_tests`.
 //!
-//! It is a crate of its own so that what is printed of a list of groups is proved apart from sites: the items that
-//! are ready after a group and weren't before, each once, in gate order. Not taken: a shell script over the lines,
-//! which would have to keep what is ready, and to quote what Gerrit calls a project; the kit's `regex`, since a line is
-//! read just where it is the text that a site writes.
+//! It is a crate of its own so that its output is proved without sites: after each group, the items that are ready and
+//! weren't before, each once, in gate order. Not taken: a shell script over the lines, which would have to keep the
+//! list of ready items and to quote names of projects; regular expressions, since a line is accepted only if it is
+//! exactly the text that a site writes.
 //!
-//! A [`Template`] says what is written for an item, [`Places`] where changes are to be merged, and an [`ItemSet`] what
-//! was handed over before. [`hand_over`] reads a source and writes to a drain, group by group.
+//! A [`Template`] is the line to write for an item, [`Places`] are the projects and branches of changes, and an
+//! [`ItemSet`] has the items that were handed over before. [`hand_over`] reads a source and writes to a drain, group by
+//! group.
 //!
 //! An example of its use:
 //!

@@ -35,7 +35,7 @@ pub struct Pipeline<'a> {
 pub struct Texts {
     /// The lines that hand them over, for the output.
     pub lines: Vec<u8>,
-    /// The lines that report those whose change isn't known, for the error output.
+    /// The lines that report items with an unknown change, for standard error.
     pub reports: Vec<u8>,
 }
 

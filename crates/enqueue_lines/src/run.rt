@@ -43,14 +43,14 @@ enum Step {
 }
 
 /// Reads what a site prints, reports or groups of changes, and writes a line for each item that became ready, in gate
-/// order, as `Pipeline::texts_of` says; the reports go to the error output. A group of lines counts once its end line
-/// has come: then the items that are ready after it, and weren't before or in `earlier`, are written at once, before
-/// more is read. Ends well at the end of the source, after an end line. Refusals: 1 `BadLine`, the line of this number
-/// is none that a site prints; 2 `BadEnd`, the end line of this number doesn't fit the lines before it; 3 `NoEnd`, the
+/// order, as `Pipeline::texts_of` says; its reports go to standard error. A group of lines counts once its end line has
+/// come: then the items that are ready after it, and weren't before or in `earlier`, are written at once, before more
+/// is read. Ends well at the end of the source, after an end line. Refusals: 1 `BadLine`, the line of this number is
+/// none that a site prints; 2 `BadEnd`, the end line of this number doesn't fit the lines before it; 3 `NoEnd`, the
 /// source ended after another line, or within one; 4 `ReadFault`, the source failed; 5 `NoMemory`; 6 `WriteFault`, an
-/// output failed. All groups before were handed over, and nothing of the group that is refused, but after `WriteFault`:
-/// then some of its lines, or all of them and some of its reports, were written. It costs O(n log n) for a group after
-/// which n items are ready, and O(n) for n bytes that are read or written.
+/// output failed. All groups before were handed over. Nothing of the refused group was written, except after
+/// `WriteFault`: then a part of its lines, or all of them and a part of its reports. It costs O(n log n) for a group
+/// after which n items are ready, and O(n) for n bytes that are read or written.
 pub fn hand_over<S: Source, O: Drain, E: Drain>(
     alloc: Global,
     pipeline: &Pipeline<'_>,
@@ -59,7 +59,7 @@ pub fn hand_over<S: Source, O: Drain, E: Drain>(
     output: &mut O,
     errors: &mut E,
 ) -> Result<(), EnqueueFault>
-    // All groups were handed over; or it is said of the first one that wasn't why, and what of it was written.
+    // All groups were handed over; or one wasn't: then it is stated why, and what of it was written.
     ensures { HandsAll (pipe_shown pipeline.now) earlier
         (record {
           left = S.left source.old;
@@ -371,7 +371,7 @@ fn write_items<O: Drain, E: Drain>(
     }
 }
 
-/// Writes a text to the output, and then another one to the error output.
+/// Writes a text to standard output, and then another one to standard error.
 fn send_both<O: Drain, E: Drain>(
     lines: &[u8],
     reports: &[u8],

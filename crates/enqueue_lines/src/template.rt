@@ -30,7 +30,7 @@ pub enum Field {
 }
 
 impl Field {
-    /// The field that a name in braces stands for.
+    /// The field with a name.
     pub fn named(name: &str) -> Option<Field>
         ensures { MatchOption result ((field : Field) → ¬ (name.now ≡ name_of field))
             (λ field. name.now ≡ name_of field) }
@@ -225,8 +225,8 @@ fn add_number(alloc: Global, text: &mut Vec<u8>, number: u32) -> Result<(), Allo
     add_quoted(text, written.as_bytes())
 }
 
-/// A law: of a text there is one reading, but for how its texts are cut. Whatever pieces read it, of which no text has
-/// an open brace, the same is written for the same values.
+/// A law: a text has one reading, except for how its plain texts are cut. Any pieces that spell it, none of whose texts
+/// has an open brace, write the same for the same values.
 pub fn templates_have_one_reading()
     ensures { (whole : List ℕ) → (parts others : List Part) → Reads whole parts → Reads whole others
         → (values : Given) → filled parts values ≡ filled others values }

@@ -35,7 +35,7 @@ pub record FeedTurn : Type 0 where
   pub piece : List ℕ
   pub told : Told
 
--- what a line says that is no event
+-- the result for a line that is no event
 abbrev pub no_event : Told
 no_event = record { part = Nothing; findings = Refuses (BadEvent Line) ∷ [] }
 
@@ -54,7 +54,7 @@ fault_of (Row change) = None
 fault_of (Stats more) = None
 fault_of Error = Some Incomplete
 
--- why the feed ends with the line, where it does
+-- the fault with which the feed ends after the line, if it does
 abbrev pub ended_by : Told → Option FeedFault
 ended_by told = if drops told.findings then Some Dropped else fault_of told.part
 
@@ -117,13 +117,13 @@ module _ {Taker : Type 0} (takes : Taker → ℕ → Told → Result (Unit {0}) 
     pub progress : new.progress ≡ after_part old.progress turn.told.part
     pub taken : takes old.taker number turn.told result new.taker
 
-  -- the last thing is handed over, and the feed ends so unless that fails
+  -- the last result is handed over, and the feed ends with this result, unless the taker fails
   abbrev pub HandsLast : ℕ → Told → Taker → Taker → Result (Unit {0}) FeedFault → Result (Unit {0}) FeedFault → Type 0
   HandsLast number told old new ending result =
       (takes old number told (Ok tt) new × (result ≡ ending))
       ⊎ ((fault : FeedFault) × takes old number told (Err fault) new × (result ≡ Err fault))
 
-  -- what came last without an LF is no event, unless it is empty
+  -- bytes after the last LF, if there are any, are handed over as no event
   abbrev pub EndsWith : ℕ → List ℕ → Taker → Taker → Result (Unit {0}) FeedFault → Result (Unit {0}) FeedFault → Type 0
   EndsWith number [] old new ending result = (new ≡ old) × (result ≡ ending)
   EndsWith number (byte ∷ rest) old new ending result = HandsLast number no_event old new ending result

@@ -1,4 +1,4 @@
--- What the parts of a step answer; for private clauses.
+-- The contracts of the private functions that make up a step of a feed.
 use Rattle.std.specs.Prelude.{◌≡◌, ◌⊎◌, ℕ, Bool, true, false, List, ◌++◌, Option, Some, None, Result, Ok, Err}
 use Rattle.std.specs.Io.KnownBytes.{Consumes, IsAtEnd}
 use Rattle.byte_ends.specs.Failures.{OneFailed}
@@ -70,13 +70,13 @@ module _ {Taker : Type 0} (takes : Taker → ℕ → Told → Result (Unit {0}) 
       IsHanded number no_event before after old new result
       ⊎ ((result ≡ Err NoMemory) × (after ≡ before) × (new ≡ old))
 
-  -- the same of what came last
+  -- the same for the bytes after the last LF
   abbrev pub IsRefusedLast : ℕ → Taker → Taker → Result (Unit {0}) FeedFault → Result (Unit {0}) FeedFault → Type 0
   IsRefusedLast number old new ending result =
       HandsLast takes number no_event old new ending result
       ⊎ ((result ≡ Err NoMemory) × (new ≡ old))
 
-  -- what came last is handed over, unless it is empty
+  -- the bytes after the last LF are handed over as no event, if there are any
   abbrev pub IsRestTaken : ℕ → List ℕ → Taker → Taker → Result (Unit {0}) FeedFault → Result (Unit {0}) FeedFault
       → Type 0
   IsRestTaken number rest old new ending result =

@@ -1,4 +1,4 @@
-//! Writes what the lines of a source bring, as a client of a session says it.
+//! Writes the bodies in the lines of a source as the lines of a session.
 
 ghost use Rattle.event_feed.specs.Ends.{SendsText};
 ghost use Rattle.event_feed.specs.Events.{RunsEvents};
@@ -12,8 +12,8 @@ use byte_ends::{Drain, Source, write_all};
 use gerrit_events::{Projects, Told};
 use std::alloc::Global;
 
-/// Writes what each line brings, as a client of a session says it, to an output, and what of it is refused to the
-/// errors.
+/// A taker that writes the bodies of each line as the lines of a session to an output, and the losses to standard
+/// error.
 #[derive(Drop)]
 pub struct EventWriter<D: Drain, E: Drain> {
     pub alloc: Global,
@@ -57,12 +57,11 @@ impl<D: Drain, E: Drain> Taker for EventWriter<D, E> {
     }
 }
 
-/// Reads the lines of a source, as `feed_lines` does, and writes what each brings, as a session takes it, to the
-/// output: `hello 2` first, then a line `take BODY` for each body. What is refused of the line of number n is reported
-/// on the errors: `reviewgate: events 1 BadEvent n KEY` or `reviewgate: events 2 Dropped n`. Refusals: those of
-/// `feed_lines`; 4 `WriteFault`, one of the outputs failed; 5 `NoMemory`, memory was refused for a line, of which
-/// nothing was written. It costs O(n) for n bytes that are read and written, and a look-up for each parent that a line
-/// names.
+/// Reads the lines of a source, as `feed_lines` does, and writes the lines of a session to the output: `hello 2` first,
+/// then a line `take BODY` for each body. A loss of line n is reported on standard error: `reviewgate: events 1
+/// BadEvent n KEY` or `reviewgate: events 2 Dropped n`. Refusals: those of `feed_lines`; 4 `WriteFault`, one of the
+/// outputs failed; 5 `NoMemory`, memory was refused for a line, of which nothing was written. It costs O(n) for n bytes
+/// that are read and written, and a look-up for each parent that a line names.
 pub fn events_run<S: Source, D: Drain, E: Drain>(
     alloc: Global,
     input: Input,

@@ -23,7 +23,7 @@ pub enum FeedFault {
     /// 7: no site answers at the address.
     #[error("no site answers at the address")]
     NoSite,
-    /// 8: the connection to the site ended, or what came over it was no answer.
+    /// 8: the connection to the site ended, or something came over it that is no answer.
     #[error("the session of the site ended")]
     Ended,
     /// 9: the answer of a query is cut short, or is an error.
@@ -35,10 +35,10 @@ pub enum FeedFault {
     /// 11: what answers at the address didn't prove that it has the key.
     #[error("the site didn't prove that it has the key")]
     NotProved,
-    /// 12: who has the key may look, and not have bodies taken in.
+    /// 12: the key has the role `read`, so that the site refuses bodies.
     #[error("the key may only read")]
     NotAllowed,
-    /// 13: the site says again and again that more of its record is left, and answers nothing that it didn't before.
+    /// 13: the site reports that more of its record is left, but sends nothing new: the pull doesn't end.
     #[error("the pull of the site's record has no end")]
     NoEnd,
 }

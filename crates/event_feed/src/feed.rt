@@ -1,4 +1,4 @@
-//! Reads a source line by line, and hands over what each line says.
+//! Reads a source line by line, and hands each parsed line to a taker.
 
 ghost use Rattle.std.specs.Prelude.{◌≡◌};
 ghost use Rattle.event_feed.specs.Feed.{Feeds, gerrit_line_limit};
@@ -18,14 +18,14 @@ use std::alloc::Global;
 /// How many bytes a line may have: 64 MiB.
 const LINE_LIMIT: usize = 67_108_864;
 
-/// Reads the lines of a source, one after the other, and hands to a taker what each says, with its number, counted
-/// from 1, before the next one is read. Before more of the source is read the taker rests. A line of more than
-/// 67,108,864 bytes is passed over without being held, and is no event, as is what comes last without an LF. Ends well
-/// at the end of the source. Refusals: 2 `Dropped`, a line says that Gerrit dropped events; 3 `ReadFault`, the source
-/// failed, or gave 2^64 - 1 lines or blocks of one line; 5 `NoMemory`, memory was refused for a line, which wasn't
-/// handed over; 9 `Incomplete`, a line is an error in place of an answer, or the source ended where the answer of a
-/// query has begun and isn't whole, or, where one is awaited, hasn't begun; and those of the taker. It costs O(n) for n
-/// bytes, beside what the taker costs.
+/// Reads the lines of a source, one after the other, and hands each parsed line to a taker, with its number, counted
+/// from 1, before the next one is read. Whenever more of the source has to be read, the taker's `rest` is called first.
+/// A line of more than 67,108,864 bytes is skipped without being held, and is reported as no event, as is a last line
+/// without an LF. Succeeds at the end of the source. Refusals: 2 `Dropped`, a line says that Gerrit dropped events; 3
+/// `ReadFault`, the source failed, or gave 2^64 - 1 lines or blocks of one line; 5 `NoMemory`, memory was refused for a
+/// line, which wasn't handed over; 9 `Incomplete`, Gerrit answered with an error, or the source ended within the answer
+/// to a query, or before an answer that is required; and those of the taker. It costs O(n) for n bytes, and what the
+/// taker costs.
 pub fn feed_lines<S: Source, T: Taker>(
     alloc: Global,
     input: Input,
@@ -78,8 +78,7 @@ pub fn feed_most<S: Source, T: Taker>(
     Err(FeedFault::ReadFault)
 }
 
-/// A reader that goes on where this one is. Where nothing is held it begins anew, so that the room of a long line is
-/// given back.
+/// A reader in the same state. If nothing is held it is a new one, so that the memory of a long line is freed.
 fn renewed(alloc: Global, limit: usize, reader: LineReader) -> LineReader
     requires { reader.limit ≡ limit }
     ensures limit { result.limit ≡ limit }
@@ -94,7 +93,7 @@ fn renewed(alloc: Global, limit: usize, reader: LineReader) -> LineReader
     }
 }
 
-/// Takes the next line, and says whether there was one.
+/// Takes the next line. Returns whether there was one.
 fn next_line<S: Source, T: Taker>(
     alloc: Global,
     input: Input,
@@ -139,7 +138,7 @@ fn await_more<T: Taker>(held: &[u8], taker: &mut T) -> Result<(), FeedFault>
     }
 }
 
-/// Reads the next line and takes it, and says whether there was one.
+/// Reads the next line and takes it. Returns whether there was one.
 fn read_line<S: Source, T: Taker>(
     alloc: Global,
     input: Input,
@@ -186,7 +185,7 @@ fn read_line<S: Source, T: Taker>(
     }
 }
 
-/// Whether there is more to come, where nothing failed.
+/// `more`, unless the call failed.
 fn and_more(done: Result<(), FeedFault>, more: bool) -> Result<bool, FeedFault>
     ensures { result ≡ with_more more done }
 {
@@ -196,7 +195,7 @@ fn and_more(done: Result<(), FeedFault>, more: bool) -> Result<bool, FeedFault>
     }
 }
 
-/// Passes over a line that is too long, and hands over that it is no event. Says whether its LF came.
+/// Skips a line that is too long, and hands over that it is no event. Returns whether its LF came.
 fn pass_line<S: Source, T: Taker>(
     alloc: Global,
     input: Input,

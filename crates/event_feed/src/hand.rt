@@ -1,4 +1,4 @@
-//! Hands over what a line says.
+//! Parses lines, and hands the results to the taker.
 
 ghost use Rattle.std.specs.Prelude.{◌≡◌, IfOk};
 ghost use Rattle.event_feed.specs.Feed.{HandsLast, ended_by, no_event};
@@ -12,14 +12,14 @@ use gerrit_events::{EventFault, EventKey, Finding, Known, Part, Projects, Told, 
 use lattice_core::NoMemory;
 use std::alloc::Global;
 
-/// What a feed has learned of the lines so far.
+/// What a feed knows from the lines so far.
 #[derive(Drop)]
 pub struct Learned {
     pub known: Known,
     pub progress: Progress,
 }
 
-/// Reads a line, and hands over what it says. Answers that there was a line.
+/// Parses a line, and hands over the result. Returns true: there was a line.
 pub fn take_line<T: Taker>(
     alloc: Global,
     projects: &Projects,
@@ -37,7 +37,7 @@ pub fn take_line<T: Taker>(
     }
 }
 
-/// Hands over what a line says, and answers that there was a line, unless the feed ends with it.
+/// Hands over a parsed line, and returns true, unless the feed ends with it.
 fn hand_over<T: Taker>(
     number: u64,
     told: Told,
@@ -54,7 +54,7 @@ fn hand_over<T: Taker>(
     }
 }
 
-/// Whether a feed goes on that ends so, if it ends.
+/// True if the feed goes on, else its fault.
 fn goes_on(end: Option<FeedFault>) -> Result<bool, FeedFault>
     ensures { result ≡ goes_on end }
 {
@@ -64,7 +64,7 @@ fn goes_on(end: Option<FeedFault>) -> Result<bool, FeedFault>
     }
 }
 
-/// Why a feed ends with a line, where it does.
+/// The fault with which the feed ends after this line, if it does.
 fn ended_by(told: &Told) -> Option<FeedFault>
     ensures { result ≡ ended_by told.now }
 {
@@ -77,7 +77,7 @@ fn ended_by(told: &Told) -> Option<FeedFault>
     }
 }
 
-/// That a line is no event.
+/// The result for a line that is no event.
 fn no_event(alloc: Global) -> Result<Told, NoMemory>
     ensures { IfOk result (λ told. told ≡ no_event) }
 {
@@ -89,7 +89,7 @@ fn no_event(alloc: Global) -> Result<Told, NoMemory>
     })
 }
 
-/// Hands over that a line is no event. Says that there was a line.
+/// Hands over that a line is no event. Returns true: there was a line.
 pub fn refuse_line<T: Taker>(
     alloc: Global,
     number: u64,
@@ -104,7 +104,7 @@ pub fn refuse_line<T: Taker>(
     }
 }
 
-/// Hands over that what came last is no event. The feed ends so unless that fails.
+/// Hands over that the bytes after the last LF are no event. Returns `ending`, unless that fails.
 pub fn refuse_last<T: Taker>(
     alloc: Global,
     number: u64,
@@ -134,7 +134,8 @@ fn hand_last<T: Taker>(
     }
 }
 
-/// Hands over that what came last is no event, unless it is empty. The feed ends so unless that fails.
+/// Hands over that the bytes after the last LF are no event, if there are any. Returns `ending`, unless
+/// that fails.
 pub fn end_lines<T: Taker>(
     alloc: Global,
     number: u64,

@@ -1,14 +1,14 @@
-//! Feeds what Gerrit writes, line by line: its stream of events, or what it answers to a query. Each line is read and
-//! what it says is handed to a taker before the next one is read; `events_run` is such a feed to a session of a site.
-//! Its output is what a client of the session says, `hello 2` and then a line `take BODY` for each body. What is lost
-//! of a line is reported on the errors.
+//! Feeds Gerrit's output, line by line: its event stream, or its answer to a query. Each line is parsed, and the result
+//! handed to a taker, before the next line is read; `events_run` turns it into the lines of a session with a site. Its
+//! output is what a client of the session sends, `hello 2` and then a line `take BODY` for each body. What is lost of a
+//! line is reported on standard error.
 //!
 //! Its tests are in the crate `text_tests`.
 //!
-//! It is a crate of its own so that the same reading serves a printed feed and one of a site. Not taken: asynchronous
+//! It is a crate of its own so that a printed feed and a feed of a site share one reader. Not taken: asynchronous
 //! streams of `futures`, for one input that is read line by line.
 //!
-//! | Line of the errors | Where |
+//! | Line on standard error | Meaning |
 //! |---|---|
 //! | `reviewgate: events 1 BadEvent n KEY` | line n is no event, lacks what its kind needs, or has a bad body |
 //! | `reviewgate: events 2 Dropped n` | line n says that Gerrit dropped events; the feed ends |

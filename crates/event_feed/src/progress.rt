@@ -11,7 +11,7 @@ use gerrit_events::Part;
 /// What a feed reads.
 #[derive(Clone, Copy, Debug, PartialEq, Eq)]
 pub enum Input {
-    /// Events, as long as they come.
+    /// The stream of events, which has no end of its own.
     Stream,
     /// The answer of a query.
     Answer,
@@ -22,9 +22,9 @@ pub enum Input {
 pub enum Progress {
     /// Nothing of an answer was read.
     Unbegun,
-    /// More is to come of it.
+    /// It has begun, and more has to come.
     Open,
-    /// It has ended, and reported that no more is left.
+    /// It has ended, and Gerrit has no more changes.
     Whole,
 }
 

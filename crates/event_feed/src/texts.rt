@@ -1,4 +1,4 @@
-//! The lines that are written for what was found in a line.
+//! The lines that are written for the findings of a line.
 
 ghost use Rattle.std.specs.Prelude.{◌≡◌, ◌++◌, IfOk, OnOk, string_bytes};
 ghost use Rattle.event_feed.specs.Texts.{bad_event_words, body_line, drops, fault_line, fault_words, is_drop};
@@ -14,7 +14,7 @@ use std::alloc::{AllocError, Global};
 /// What a line takes beside its body.
 const TAKE_ROOM: usize = 6;
 
-/// The lines of the bodies, as a session takes them.
+/// The `take` lines of the bodies.
 pub fn take_lines(alloc: Global, findings: &[Finding]) -> Result<String, NoMemory>
     ensures { IfOk result (λ text. string_bytes text ≡ take_lines findings.now) }
 {

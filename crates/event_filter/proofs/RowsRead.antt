@@ -17,7 +17,7 @@ use Rattle.event_filter.proofs.Truth.{agrees}
 same_members : (text : List ℕ) (a b : Members) → IsLineObject text a → IsLineObject text b → object a ≡ object b
 same_members text a b one other = let e = one.value in let f = other.value in cc
 
--- of what is met last the record says all, whatever was met before
+-- the record agrees with all findings that are met last, whatever was met before
 agrees_later : (before later : List Finding) (new : State) → AgreesWithAll (before ++ later) new → AgreesWithAll later new
 agrees_later [] later new all = all
 agrees_later (finding ∷ before) later new all = agrees_later before later new all.1

@@ -1,4 +1,4 @@
--- What counts against a patch set is met before all else. The order is the project's own.
+-- The votes below 0 of a line are processed before everything else. The order is the project's own.
 use Rattle.std.specs.Prelude.{ℤ, pos, negsuc, Bool, true, false, List, ◌++◌, filter}
 use Rattle.review_ops.specs.Deed.{Deed, vote}
 use Rattle.gerrit_events.specs.declared.finding.Finding.{Finding}
@@ -13,7 +13,7 @@ abbrev pub votes_against : Deed → Bool
 votes_against (vote change set label voter value) = is_below_zero value
 votes_against deed = false
 
--- the finding brings such a vote; the marks of a change, votes of the reserved voter, are votes below 0, too
+-- the finding is a body with such a vote; the marks of a change, votes of the reserved voter, are votes below 0, too
 abbrev pub is_against : Finding → Bool
 is_against (Brings deed) = votes_against deed
 is_against finding = false

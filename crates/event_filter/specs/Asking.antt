@@ -37,9 +37,9 @@ LacksNeeded state bases deed number = ⊥
 abbrev pub IsReplaced : Change → ℕ → Type 0
 IsReplaced change set = (current : ℕ) × IsGreatestKnown change current × (set < current)
 
--- the record hasn't the patch set, or has the change as abandoned that is restored; or it doesn't say the vote, or that
--- it was taken back, which is on a replaced patch set: Gerrit may copy it to the current one ("copyCondition" of a
--- label), and shows it on the replaced one alone
+-- the record lacks the patch set; or it has the restored change as abandoned; or it lacks the vote, or the withdrawal,
+-- on a replaced patch set: Gerrit may copy such a vote to the current one ("copyCondition" of a label), and shows it on
+-- the replaced one alone
 abbrev pub IsNew : State → Deed → Type 0
 IsNew state (patch_set change set message parent) = patch_at (change_at state change) set ≡ None
 IsNew state (restore change) = status_of (change_at state change) ≡ Abandoned

@@ -1,4 +1,4 @@
-//! The order in which a record meets what was found in a line.
+//! The order in which a record processes the findings of a line.
 
 ghost use Rattle.std.specs.Prelude.{◌≡◌, IfOk, MatchOption, false, filter, true};
 ghost use Rattle.event_filter.specs.Against.{against_first, is_against, votes_against};
@@ -9,11 +9,11 @@ use lattice_core::NoMemory;
 use review_ops::{Body, Draft};
 use std::alloc::Global;
 
-/// What was found in a line, in the order in which a record has to meet it: first each vote below 0, the marks of a
-/// change among them, and then all of it. A line is taken in one operation after the other, and a site reports in
-/// between: so no patch set is ready for a moment since its approvals came before a veto, and a line that is taken in
-/// in part opens nothing that the whole line keeps shut. A vote that is met twice brings nothing the second time.
-/// Refused is only memory. It costs O(n) for n bytes of what was found.
+/// The findings of a line, in the order in which a record has to process them: first each vote below 0, including the
+/// marks of a change, and then all findings. The bodies of a line are taken in one after the other, and a site reports
+/// in between. With this order no patch set is ready for a moment because its approvals came before a veto, and a line
+/// that is taken in only in part makes nothing ready that the whole line keeps out. A vote that is processed twice adds
+/// nothing the second time. Refusal: memory was refused. It costs O(n) for n bytes of findings.
 pub fn against_first(alloc: Global, findings: Vec<Finding>) -> Result<Vec<Finding>, NoMemory>
     ensures { IfOk result (λ met. met.items ≡ against_first findings.items) }
 {
@@ -23,7 +23,7 @@ pub fn against_first(alloc: Global, findings: Vec<Finding>) -> Result<Vec<Findin
     Ok(met)
 }
 
-/// Those of the findings that are votes below 0.
+/// The findings that are votes below 0.
 fn votes_against(alloc: Global, findings: &[Finding]) -> Result<Vec<Finding>, NoMemory>
     ensures { IfOk result (λ votes. votes.items ≡ filter is_against findings.now) }
 {
@@ -36,7 +36,7 @@ fn votes_against(alloc: Global, findings: &[Finding]) -> Result<Vec<Finding>, No
     Ok(votes)
 }
 
-/// The body of a finding that is a vote below 0.
+/// The body of a finding, if it is a vote below 0.
 fn vote_against(finding: &Finding) -> Option<&Body>
     ensures { MatchOption result (is_against finding.now ≡ false)
         (λ body. (is_against finding.now ≡ true) × (finding.now ≡ Brings body.now)) }

@@ -1,4 +1,4 @@
-//! Which changes have to be asked for.
+//! The changes that have to be queried.
 
 ghost use Rattle.std.specs.Prelude.{◌≡◌, ◌≢◌, ◌↔◌, ◌⊎◌, ℕ, IfOk, OnOk, IsTrue, None, option_map, true};
 ghost use Rattle.std.specs.BTreeSet.{contains};
@@ -23,14 +23,14 @@ use state_core::State;
 use std::alloc::Global;
 use std::collections::BTreeSet;
 
-/// The changes that Gerrit has to be asked for, where a line is to be met by a record: the change of an event that
-/// brings a patch set which the record hasn't, that restores what the record has as abandoned, that has a vote which the
-/// record doesn't say on a patch set that was replaced (Gerrit may copy it to the current one, and has no event of
-/// that), or of which something is lost; the open changes whose current patch set has that change as its parent, where the patch set is new and isn't
-/// the first, since it may outdate them; and of such a patch set, and of that of an open row, the parent and what the
-/// message needs by these bases, where the record has no patch set of that change and no merge. Refused is only memory.
-/// It costs O(n + m log k) for n bytes of messages and m of such changes, of k changes of the record, and O(k) more
-/// where a patch set that isn't the first is new.
+/// The changes that have to be queried because of a line: (1) the change of an event that has a new patch set, restores
+/// a change that the record has as abandoned, has a vote or a withdrawal that the record lacks on a replaced patch set
+/// (Gerrit may copy it to the current one, and has no event for that), or is lost in part; (2) if the new patch set
+/// isn't the first, the open changes whose current patch set has that change as its parent, since it may outdate them;
+/// (3) of a new patch set, and of the patch set of an open row, the parent and the changes that the message names under
+/// these bases, if the record has neither a patch set nor a merge of them. Refusal: memory was refused. It costs O(n +
+/// m log k) for n bytes of messages and m of such changes, of k changes of the record, and O(k) more where a patch set
+/// that isn't the first is new.
 pub fn asked(
     alloc: Global,
     state: &State,
@@ -139,8 +139,8 @@ fn add_new(
     add_outdated(state, body, asks)
 }
 
-/// Whether the record hasn't a patch set, has what is restored as abandoned, or doesn't say a vote on a patch set that
-/// was replaced.
+/// Whether the record lacks a patch set, has a restored change as abandoned, or lacks a vote or a withdrawal on a
+/// replaced patch set.
 fn is_new(state: &State, body: &Body) -> Result<bool, NoMemory>
     ensures { IfOk result (λ new. IsTrue new ↔ IsNew state.now body.now) }
 {
@@ -153,7 +153,7 @@ fn is_new(state: &State, body: &Body) -> Result<bool, NoMemory>
     }
 }
 
-/// Whether a change has a later patch set than this one, and the record doesn't say the body.
+/// Whether a change has a later patch set than this one, and the record lacks what the body says.
 fn is_late(state: &State, change: u32, set: u32, body: &Body) -> Result<bool, NoMemory>
     ensures { IfOk result
         (λ late. IsTrue late ↔ (IsReplaced (change_at state.now change) set × ¬ IsRecorded state.now body.now)) }

@@ -1,4 +1,4 @@
-//! What a finding brings to a record.
+//! The bodies that a finding adds to a record.
 
 ghost use Rattle.std.specs.Prelude.{◌≡◌, ◌↔◌, ◌≤◌, ℕ, [], ◌∷◌, IfOk, IsTrue, OnOk, map};
 ghost use Rattle.review_ops.specs.Draft.{deed_of};
@@ -55,7 +55,7 @@ fn shown(alloc: Global, state: &State, body: Body) -> Result<Vec<Body>, NoMemory
     only(alloc, body)
 }
 
-/// A body alone.
+/// A list of one body.
 fn only(alloc: Global, body: Body) -> Result<Vec<Body>, NoMemory>
     ensures { IfOk result (λ bodies. bodies.items ≡ body ∷ []) }
 {
@@ -74,8 +74,8 @@ fn is_settled(state: &State, body: &Body) -> Result<bool, NoMemory>
     is_recorded(state, body)
 }
 
-/// Whether a body can't count: it is an abandon or a restore of a merged change, which stays merged. It costs O(log n)
-/// for n changes.
+/// Whether a body has no effect: an abandon or a restore of a merged change, which stays merged. It costs O(log n) for
+/// n changes.
 pub fn is_moot(state: &State, body: &Body) -> bool
     ensures { IsTrue result ↔ (¬ IsOpenTo state.now body.now) }
 {
@@ -85,7 +85,7 @@ pub fn is_moot(state: &State, body: &Body) -> bool
     }
 }
 
-/// Whether a patch set that an event shows is new.
+/// Whether a patch set that an event shows adds something to the record.
 fn is_news(state: &State, body: &Body) -> bool
     ensures { IsTrue result ↔ IsNews state.now body.now }
 {

@@ -1,4 +1,4 @@
-//! What follows of what a record holds, as functions that do nothing: their contracts are the laws.
+//! Laws of records and findings, as functions without effect: the contract of each function is a law.
 
 ghost use Rattle.std.specs.Prelude.{◌≡◌, ◌≤◌, ◌++◌, ℕ, List, false, length};
 ghost use Rattle.event_filter.specs.Recorded.{change_at, IsRecorded, LookAlike};
@@ -48,8 +48,8 @@ pub fn what_is_nothing_new_brings_nothing()
 /// A law: a row of an answer is the truth on its change. Once it was read, and what was found in it is met, one finding
 /// after the other, under stamps above those before, the record says of the change what the row says, in the terms of
 /// Gerrit's JSON: the commit of the current patch set, the status (a merged change stays merged), each approval of the
-/// current patch set, and that nobody else has a score on it. Whatever is met before all of it, as by `against_first`,
-/// changes nothing of that.
+/// current patch set, and that nobody else has a score on it. This holds whatever was met before these findings,
+/// such as the votes that `against_first` puts first.
 pub fn what_a_row_says_is_what_the_record_says()
     ensures { (known after : List Revision) → (choice : Choice) → (text : List ℕ) → (told : Told)
         → Reads known choice text told after → (members : Members) → IsLineObject text members

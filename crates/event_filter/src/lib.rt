@@ -1,5 +1,5 @@
-//! What a record says already, so that a feed needn't send it again: the same commit of a patch set, the same score of
-//! a voter, where a withdrawn vote is none and none is one of 0, and the same status.
+//! What a record has already, so that a feed needn't send it again: the same commit of a patch set, the same score of a
+//! voter (a withdrawn vote and no vote both count as 0), and the same status.
 //!
 //! Its tests are in the crate `record_tests`.
 //!

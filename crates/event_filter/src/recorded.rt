@@ -1,4 +1,4 @@
-//! Whether a record says already what a body says.
+//! Whether a record has already what a body says.
 
 ghost use Rattle.std.specs.Prelude.{◌≡◌, ◌↔◌, IsTrue, IfOk, string_bytes};
 ghost use Rattle.change_core.specs.Views.{status_of};
@@ -12,9 +12,9 @@ use state_core::State;
 use std::alloc::Allocator;
 
 /// Whether a record says already what a body says: the patch set has the same message and parent, the vote of the same
-/// voter on the same label has the same value, or the change has the same status. A withdrawn vote and one of 0 are
-/// none. Of a change that no operation is on, the status is NEW. Refused is only memory, for the key of a vote. It
-/// costs O(log n + m) for n changes, patch sets and votes, and m bytes of the body's texts.
+/// voter on the same label has the same value, or the change has the same status. A withdrawn vote, a vote of 0 and no
+/// vote are the same. A change without operations has the status NEW. Refusal: memory was refused, for the key of a
+/// vote. It costs O(log n + m) for n changes, patch sets and votes, and m bytes of the body's texts.
 pub fn is_recorded<A: Allocator + Copy>(state: &State<A>, body: &Body<A>) -> Result<bool, NoMemory>
     ensures { IfOk result (λ said. IsTrue said ↔ IsRecorded state.now body.now) }
 {

@@ -12,8 +12,8 @@ use state_core::State;
 use std::alloc::Global;
 use std::collections::BTreeSet;
 
-/// An abandon of each change that a record has as open and that isn't listed, by number. Refused is only memory. It
-/// costs O(n log m) for n changes, of which m are listed.
+/// An abandon of each change that a record has as open and that isn't listed, by number. Refusal: memory was refused.
+/// It costs O(n log m) for n changes, of which m are listed.
 pub fn vanished(alloc: Global, state: &State, listed: &BTreeSet<u32>) -> Result<Vec<Body>, NoMemory>
     ensures { IfOk result (λ bodies. AreBodies (abandons listed.now state.now) bodies.items) }
 {

@@ -1,5 +1,5 @@
--- What a feed does with what is found in a line: in order, what each finding brings to the record is offered to the
--- site, body by body, and what is lost is reported.
+-- How a feed processes the findings of a line: in order, it offers the bodies of each finding to the site, and reports
+-- losses.
 use Rattle.std.specs.Prelude.{◌≡◌, ◌⊎◌, ℕ, List, ◌++◌, Option, Result, Ok, Err, codes, decimal}
 use Rattle.event_feed.specs.Ends.{End, FeedIsCutShort, IsWritten}
 use Rattle.event_feed.specs.Texts.{fault_line}

@@ -1,5 +1,5 @@
--- A site's record is pulled in rounds into the state that a feed keeps of it. How far that goes is told by a front,
--- which goes on from one sequence number of a row to the next, and so over no gap.
+-- A site's record is pulled in rounds into the state that a feed keeps of it. The front says how far it is pulled; it
+-- is raised from one sequence number of a row to the next, and so over no gap.
 use Rattle.std.specs.Prelude.{◌≡◌, ◌⊎◌, ◌≤◌, ◌<◌, ◌+◌, ◌-◌, ◌==◌, ◌^◌, ℕ, Bool, true, false, List, [], ◌∷◌, Result, Ok, Err}
 use Rattle.std.specs.Prelude.{Contains, flat_map, fold, length, take, if◌then◌else◌}
 use Rattle.event_feed.specs.declared.fault.FeedFault.{FeedFault}

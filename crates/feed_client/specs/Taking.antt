@@ -55,15 +55,16 @@ LearnsNews answers old new (Err fault) =
     × (new.place.errors ≡ old.place.errors) × (new.output ≡ old.output) × (new.bases ≡ old.bases)
 
 module _ {Site : Type 0} (replies : Site → Deed → Result Timestamp IntakeFault → Site → Type 0) where
-  -- these changes are asked for, and what was found is met, votes below 0 first; nothing is met where asking is cut
-  -- short
+  -- the `ask` lines of these changes are written, and then the findings are processed, votes below 0 first; if the
+  -- `ask` lines are cut short, none is processed
   abbrev pub AsksAndMeets : ℕ → BTreeSet ℕ → Told → Seen Site → Seen Site → Result (Unit {0}) FeedFault → Type 0
   AsksAndMeets number asks told old new result =
       (IsWritten (ask_lines asks.keys) old.output new.output
       × InTurn (Meets replies number) (against_first told.findings) old.place new.place result)
       ⊎ (FeedIsCutShort (ask_lines asks.keys) old.output new.output × (result ≡ Err WriteFault) × (new.place ≡ old.place))
 
-  -- what the line of this number says is taken up; nothing is done where memory is refused for what to ask or to meet
+  -- the line with this number is processed; nothing is done if memory is refused for the changes to ask for, or for the
+  -- order of the findings
   abbrev pub TakesLine : ℕ → Told → Seen Site → Seen Site → Result (Unit {0}) FeedFault → Type 0
   TakesLine number told old new result =
       (((asks : BTreeSet ℕ) × AreAsked old.bases old.place.state told asks × AsksAndMeets number asks told old new result)
@@ -81,7 +82,7 @@ module _ {Feed Site : Type 0} (shown : Feed → Seen Site)
   abbrev pub FeedTakes : Feed → ℕ → Told → Result (Unit {0}) FeedFault → Feed → Type 0
   FeedTakes old number told result new = TakesLine replies number told (shown old) (shown new) result
 
-  -- the lines of the source are fed to the site
+  -- the lines of the source are fed to the site, one after the other
   abbrev pub FeedsSite : Input → Choice → Option (List ℕ) → ℕ → Feed → Option (List ℕ) → ℕ → Feed
       → Result (Unit {0}) FeedFault → Type 0
   FeedsSite input choice left unread old left' unread' new result =

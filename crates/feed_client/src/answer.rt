@@ -1,4 +1,4 @@
-//! Reads what a session answers to a body.
+//! Parses the answer of a session to a body.
 
 ghost use Rattle.std.specs.Prelude.{◌≡◌, ◌++◌, ◌∷◌, ◌<◌, ◌^◌, ℕ, List, IfOk, IfSome, IsNone, IsSomeAnd, MatchOption};
 ghost use Rattle.std.specs.Prelude.{Some};
@@ -21,7 +21,7 @@ const REFUSALS: [Refusal; 5] = [
     Refusal::Closed,
 ];
 
-/// What a session answers to each body where the key of its connection may only read, after `no `.
+/// The answer to a body, after `no `, if the key of the connection may only read.
 const NOT_ALLOWED: &[u8] = b"11 NotAllowed";
 
 /// What a line answers: `ok STAMP`, or the refusal of `no NUMBER NAME`. Refusals: `Refused`, with what the site refused

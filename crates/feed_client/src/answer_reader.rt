@@ -1,4 +1,4 @@
-//! Reads what a site answers, as long as there is patience with it.
+//! Reads the answers of a site, with a time-out.
 
 use super::session::patience;
 use site_net::{PatientReader, Stop};
@@ -8,8 +8,8 @@ use std::net::TcpStream;
 use std::sync::Wait;
 use std::time::Clock;
 
-/// What a site sends over a connection. The wait for an answer begins with the first read of it, so that a session may
-/// rest between two of them for as long as nobody reads.
+/// The bytes that a site sends over a connection. The time-out of an answer begins with the first read of it, so that a
+/// session may be idle between two answers for any time.
 #[derive(Drop)]
 pub struct AnswerReader<'a, R: Wait + Clock> {
     rt: &'a R,

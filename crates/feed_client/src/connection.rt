@@ -29,7 +29,7 @@ pub enum Feeds {
     Stream,
     /// The answer of a query.
     Query,
-    /// The answer of a query, which lists every open change.
+    /// The answer to a query that lists every open change.
     Complete,
 }
 
@@ -41,7 +41,7 @@ pub struct FeedOrder<'a> {
     pub feeds: Feeds,
     /// Whose changes are fed.
     pub projects: Projects,
-    /// What says which changes a `Depends-On` names, so that unknown ones are asked for.
+    /// The bases under which footers name changes, so that unknown ones are queried; `None` without a gate file.
     pub bases: Option<Bases>,
 }
 
@@ -54,13 +54,13 @@ struct Reading<I> {
 
 /// Feeds the lines of an input to a site, as `feed_site` and `complete_site` do, over a connection that is sealed where
 /// the site is on another machine. Its record is pulled first, of which the state is kept, and then `pulled N` is
-/// written to the output: the record has N operations. Only then the input is read, by a thread of its own. One session
-/// is held as long as the feed lasts, which ends with `quit` and `bye`. A feed of a stream pulls again over it, from
-/// its front, whenever its input was silent for a second, or the last pull is a second ago. Where the session ends the
-/// feed does within a tenth of a second, also while the input is silent. Refusals, beside those of `feed_site` and `complete_site`: 7 `NoSite`, no
-/// site answers at the address; 8 `Ended`, also where the system gives no random bytes for sealing; 10 `NoKey`, the
-/// site has no such key; 11 `NotProved`, what answers didn't prove that it has it; 12 `NotAllowed`, the key may only
-/// read; 13 `NoEnd`, more than 256 operations lie past a gap of the site's record.
+/// written to the output: the record has N operations. Only then the input is read, by a thread of its own. The whole
+/// feed is one session, which ends with `quit` and `bye`. A feed of a stream pulls again over it, from its front,
+/// whenever its input was silent for a second, or the last pull was a second ago. If the session ends, so does the feed
+/// within a tenth of a second, even while the input is silent. Refusals, beside those of `feed_site` and
+/// `complete_site`: 7 `NoSite`, no site answers at the address; 8 `Ended`, also where the system gives no random bytes
+/// for sealing; 10 `NoKey`, the site has no such key; 11 `NotProved`, what answers didn't prove that it has it; 12
+/// `NotAllowed`, the key may only read; 13 `NoEnd`, more than 256 operations lie past a gap of the site's record.
 pub fn feed_to<R, I, O, E>(
     rt: R,
     alloc: Global,

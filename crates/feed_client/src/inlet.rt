@@ -21,7 +21,7 @@ pub enum Block {
     Failed,
 }
 
-/// Where the thread leaves one block after the other. At most one waits there to be taken.
+/// A channel for one block, from the thread that reads the input to the feed.
 #[derive(Drop)]
 pub struct Inlet {
     slot: Mutex<Slot>,
@@ -81,7 +81,7 @@ impl Inlet {
         block
     }
 
-    /// Nobody takes a block any more.
+    /// Notes that no block will be taken any more.
     pub fn close(&self, rt: &impl Wait) {
         let mut slot = self.slot.lock(rt);
         slot.is_closed = true;

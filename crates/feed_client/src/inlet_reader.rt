@@ -9,7 +9,7 @@ use std::net::TcpStream;
 use std::sync::Wait;
 use std::time::{Clock, Duration};
 
-/// How many milliseconds a read waits before it looks again whether the session lasts.
+/// After how many milliseconds a waiting read checks again whether the session has ended.
 const TICK_MS: u64 = 100;
 
 /// The bytes of an input, as they come through an inlet. A read fails where the input does, and where the session ends

@@ -1,4 +1,4 @@
-//! A site, as a feed sees it.
+//! The trait of a site, as a feed sees it.
 
 ghost use Rattle.std.specs.Prelude.{◌≡◌, Result};
 ghost use Rattle.feed_client.specs.Refusals.{text_of};
@@ -50,21 +50,21 @@ impl Refusal {
     }
 }
 
-/// A site that takes bodies in, and answers what else came to it. It has relations of its own between what it is, what
-/// it is asked, what it answers and what it is then.
+/// A site that takes in bodies, and answers what else came to it. Each implementation gives two relations, between its
+/// state before a call, the argument, the result, and its state after.
 pub trait Intake {
-    /// From the old state a body may be replied to so, and leave the new state.
+    /// `take_in` may return the result for a body, and lead from the first state to the second.
     ghost replies: { Self → Deed → Result Timestamp Fault → Self → Type 0 };
 
-    /// From the old state this round may be answered, and leave the new state.
+    /// `next_round` may return the round, and lead from the first state to the second.
     ghost answers: { Self → Result SiteRound Fault → Self → Type 0 };
 
     /// Offers a body, and awaits the answer: the stamp under which it was taken in.
     fn take_in(&mut self, body: &Body) -> Result<Stamp, IntakeFault>
         ensures { replies self.old body.now result self.new };
 
-    /// Asks for what came to the site and wasn't answered yet: some of it, and whether there is more to take up before
-    /// the input is read on.
+    /// Asks for operations that came to the site and weren't answered yet: some of them, and whether there are more to
+    /// take before the input is read on.
     fn next_round(&mut self) -> Result<Missing, IntakeFault>
         ensures { answers self.old
             (round_by (λ missing. record { ops = missing.ops.items; more = missing.more }) result) self.new };

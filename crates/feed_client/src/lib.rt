@@ -1,13 +1,14 @@
-//! Feeds what Gerrit writes to a site, of this machine or, over a sealed connection, of another one: what `event_feed`
-//! reads of each line goes to a session of the site, but for what the site's record says already. The feed first pulls
-//! the record, and then keeps its state in step with what it sends and with what others bring to the site.
+//! Feeds Gerrit's output to a site on this machine or, over a sealed connection, on another one: sends what
+//! `event_feed` reads of each line to a session of the site, except what the site's record has already. The feed first
+//! pulls the record, and then keeps its state in step with what it sends and with what others bring to the site.
 //!
 //! Its tests are in the crate `feed_tests`.
 //!
-//! It is a crate of its own so that a feed is a client like any other: a site doesn't know Gerrit. Not taken: Gerrit's
-//! REST interface and SSH as a library: `ssh` itself is better kept, and its output can be recorded and played.
+//! It is a crate of its own so that a feed is a client like any other, and a site doesn't depend on Gerrit. Not taken:
+//! Gerrit's REST API and an SSH library: `ssh` itself is better maintained, and its output can be recorded and
+//! replayed.
 //!
-//! | Line of the errors | Where |
+//! | Line on standard error | Meaning |
 //! |---|---|
 //! | `reviewgate: events 1 BadEvent n KEY` | line n is no event, lacks what its kind needs, or has a bad body |
 //! | `reviewgate: events 1 BadEvent n status` | line n abandons or restores a change that is merged |

@@ -92,7 +92,7 @@ fn sealed<'a, R: Wait + Clock + RandomSource>(
     }
 }
 
-/// How a feed ends whose connection can't be sealed.
+/// The fault of a feed for a failed handshake.
 fn ending_of_dial(fault: DialFault) -> FeedFault
     ensures { result ≡ ending_of_dial fault }
 {

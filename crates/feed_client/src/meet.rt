@@ -1,4 +1,4 @@
-//! Meets what is found in a line: what it brings to the record is offered to the site, and what is lost is reported.
+//! Processes the findings of a line: offers their bodies to the site, and reports losses.
 
 ghost use Rattle.std.specs.Prelude.{◌≡◌, IfOk, MatchOption, string_bytes};
 ghost use Rattle.event_feed.specs.Texts.{fault_line};
@@ -19,10 +19,10 @@ use review_ops::{Body, Op, Stamp};
 use state_core::State;
 use std::alloc::{AllocError, Global};
 
-/// The number of a body that the site refused.
+/// The number of the refusal line of a body that the site refused.
 const REFUSED: u8 = 6;
 
-/// Meets what was found in the line of this number, one after the other.
+/// Processes the findings of the line with this number, one after the other.
 pub fn meet_all<T: Intake, E: Drain>(
     alloc: Global,
     number: u64,
@@ -42,7 +42,7 @@ pub fn meet_all<T: Intake, E: Drain>(
     Ok(())
 }
 
-/// Meets one thing that was found.
+/// Processes a finding.
 fn meet<T: Intake, E: Drain>(
     alloc: Global,
     number: u64,
@@ -65,8 +65,7 @@ fn meet<T: Intake, E: Drain>(
     }
 }
 
-/// What is lost of a finding, if it is: what the line itself loses, and an abandon or a restore of a change that is
-/// merged.
+/// The loss of a finding, if there is one: that of the line itself, or an abandon or a restore of a merged change.
 fn lost_of(state: &State, finding: &Finding) -> Option<EventFault>
     ensures { MatchOption result ((fault : Lost) → ¬ IsLostFinding state.now finding.now fault)
         (IsLostFinding state.now finding.now) }
@@ -78,7 +77,7 @@ fn lost_of(state: &State, finding: &Finding) -> Option<EventFault>
     }
 }
 
-/// How a body is lost that can't count, where it can't.
+/// The loss of a body, if it has no effect.
 fn moot_fault(state: &State, body: &Body) -> Option<EventFault>
     ensures { MatchOption result ((fault : Lost) → ¬ ((¬ IsOpenTo state.now body.now) × (fault ≡ EventFault.BadEvent EventKey.Status)))
         (λ fault. (¬ IsOpenTo state.now body.now) × (fault ≡ EventFault.BadEvent EventKey.Status)) }
@@ -127,7 +126,7 @@ fn offer<T: Intake, E: Drain>(
     take_up(alloc, number, body, reply, state, errors)
 }
 
-/// Goes on from the reply to a body.
+/// Handles the reply to a body: takes the operation into the state, reports a refusal, or ends the feed.
 fn take_up<E: Drain>(
     alloc: Global,
     number: u64,
@@ -150,7 +149,7 @@ fn take_up<E: Drain>(
     }
 }
 
-/// Takes an operation that the site has taken in.
+/// Takes an operation, which the site has taken in, into the state.
 fn keep(state: &mut State, op: Op) -> Result<(), FeedFault>
     ensures { KeepsTaken op state.old state.new result }
 {
@@ -186,7 +185,7 @@ fn refused_line(alloc: Global, number: u64, refusal: Refusal) -> Result<String, 
     Ok(line)
 }
 
-/// The words of a refusal, with the site's own of it.
+/// The words of a refusal, with the text of the site's answer.
 fn refused_words(alloc: Global, number: u64, text: &str) -> Result<String, AllocError>
     ensures { IfOk result (λ words. string_bytes words ≡ refused_words number text.now) }
 {
@@ -212,7 +211,7 @@ fn report_loss<E: Drain>(
     }
 }
 
-/// Writes a text to the errors.
+/// Writes a text to standard error.
 fn report<E: Drain>(errors: &mut E, text: &str) -> Result<(), FeedFault>
     ensures { ReportsLoss text.now (record { taken = E.taken errors.old; failed = E.failed errors.old })
         (record { taken = E.taken errors.new; failed = E.failed errors.new }) result }

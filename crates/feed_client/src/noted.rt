@@ -1,4 +1,4 @@
-//! What an answer lists.
+//! Which changes an answer lists.
 
 ghost use Rattle.std.specs.Prelude.{◌≡◌, OnOk};
 ghost use Rattle.feed_client.specs.Listing.{IsUnnoted, Notes};
@@ -8,8 +8,7 @@ use lattice_core::NoMemory;
 use std::alloc::Global;
 use std::collections::BTreeSet;
 
-/// What the lines of an answer list so far: the changes of its rows, whether each line could be read, and the number of
-/// the last line.
+/// The changes in the rows of an answer so far, whether every line could be read, and the number of the last line.
 #[derive(Drop)]
 pub struct Noted {
     pub changes: BTreeSet<u32>,

@@ -1,4 +1,4 @@
-//! Takes what came to a site into the state that a feed keeps of its record.
+//! Pulls the operations that came to a site into the state that a feed keeps of its record.
 
 ghost use Rattle.std.specs.Prelude.{◌≡◌, ◌<◌, ℕ, List, MatchResult, OnErr, OnOk, fold, length, take};
 ghost use Rattle.std.specs.FinMap.{empty};
@@ -56,7 +56,7 @@ fn pull_round<T: Intake>(site: &mut T, state: &mut State) -> Result<Pulled, Feed
     }
 }
 
-/// How a feed ends where a site answers no round.
+/// The fault of a feed for the fault of a pull.
 fn ending_of(fault: IntakeFault) -> FeedFault
     ensures { result ≡ ending_of fault }
 {
@@ -80,8 +80,8 @@ fn take_ops(state: &mut State, ops: Vec<Op>) -> Result<(), NoMemory>
     Ok(())
 }
 
-/// Lets a front go on to a stamp, where that is the next of its row. Where memory is refused nothing changes. It costs
-/// O(log n) for n rows.
+/// Raises a front to a stamp, if that is the next one of its row. If memory is refused nothing changes. It costs O(log
+/// n) for n rows.
 pub fn go_on(front: &mut Front, stamp: Stamp) -> Result<(), NoMemory>
     ensures ok { OnOk result (front.new ≡ gone_on front.old stamp) }
     ensures err { OnErr result (front.new ≡ front.old) }

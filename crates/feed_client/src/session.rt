@@ -22,19 +22,19 @@ use std::time::{Clock, Duration, Instant};
 /// How many milliseconds a site has for an answer.
 const PATIENCE_MS: u64 = 60_000;
 
-/// How many milliseconds a wait for the input takes before it looks again whether the session lasts.
+/// After how many milliseconds a wait for the input checks again whether the session has ended.
 const TICK_MS: u64 = 100;
 
-/// How many such waits make the input silent: a second.
+/// After how many such waits the input counts as silent: a second.
 const SILENT_TICKS: u32 = 10;
 
 /// How many seconds after a pull it pulls again, however much comes from the input.
 const PULL_S: u64 = 1;
 
-/// How many seconds pass at least before the site hears again that Gerrit was heard.
+/// How many seconds pass at least between two `heard` lines.
 const HEARD_S: u64 = 10;
 
-/// A session that is open, with what it was asked for so far.
+/// An open session with a site, and what was pulled over it.
 #[derive(Drop)]
 pub struct Session<'a, R: Wait + Clock> {
     rt: &'a R,
@@ -52,7 +52,7 @@ pub struct Session<'a, R: Wait + Clock> {
     is_behind: bool,
     /// When it pulled last.
     pulled: Option<Instant>,
-    /// Whether the site notes that Gerrit was heard, as far as is known, and when it did last.
+    /// Whether the site supports `heard`, as far as is known, and when it was sent last.
     notes_heard: bool,
     heard: Option<Instant>,
 }
@@ -73,7 +73,7 @@ pub fn patience() -> Patience {
 }
 
 impl<'a, R: Wait + Clock> Session<'a, R> {
-    /// A session over a connection, which was greeted.
+    /// Opens a session over a connection: sends the greeting, and reads the site's.
     pub fn open(
         rt: &'a R,
         alloc: Global,
@@ -141,9 +141,9 @@ impl<'a, R: Wait + Clock> Session<'a, R> {
         }
     }
 
-    /// Pulls a round: what the front lacks, at most 256 operations, and whether the site has more. The front goes on to
-    /// them. Where it goes on to none, and more is left, the next round would be the same: more than 256 operations lie
-    /// past a gap of the site's record.
+    /// Pulls a round: what the front lacks, at most 256 operations, and whether the site has more. The front is raised
+    /// to them. If it isn't raised, and more is left, the next round would be the same (more than 256 operations lie
+    /// past a gap of the site's record): `NoEnd`.
     fn pull(&mut self) -> Result<Missing, IntakeFault> {
         let round = self.read_round()?;
         let mut goes_on = false;
@@ -164,7 +164,7 @@ impl<'a, R: Wait + Clock> Session<'a, R> {
         read_round(self.alloc, &mut self.reader, &mut self.source).map_err(line_fault)
     }
 
-    /// Lets the front go on to a stamp, where that is the next of its row. Whether it is.
+    /// Raises the front to a stamp, if that is the next one of its row. Returns whether it is.
     fn reach(&mut self, stamp: Stamp) -> Result<bool, IntakeFault> {
         let row = Row {
             site: stamp.site(),
@@ -177,8 +177,8 @@ impl<'a, R: Wait + Clock> Session<'a, R> {
         }
     }
 
-    /// Has the site note that Gerrit was heard, unless that was less than ten seconds ago. A site of an older version
-    /// knows no such line, and isn't asked again.
+    /// Sends `heard`, unless that was sent less than ten seconds ago. A site of an older version doesn't support it,
+    /// and isn't sent it again.
     fn say_heard(&mut self) -> Result<(), IntakeFault> {
         let Ok(now) = Instant::now(self.rt) else {
             return Ok(());
@@ -199,7 +199,7 @@ impl<'a, R: Wait + Clock> Session<'a, R> {
         }
     }
 
-    /// Whether the site noted that Gerrit was heard less than ten seconds before.
+    /// Whether `heard` was sent less than ten seconds ago.
     fn was_heard(&self, now: Instant) -> bool {
         match self.heard {
             Some(heard) => now.duration_since(heard) < Duration::from_secs(HEARD_S),
@@ -233,7 +233,7 @@ impl<'a, R: Wait + Clock> Session<'a, R> {
     }
 }
 
-/// How a session fails in which a pull does.
+/// The fault of a session for the fault of a pull.
 fn line_fault(fault: LineFault) -> IntakeFault {
     match fault {
         LineFault::NoMemory => IntakeFault::NoMemory,

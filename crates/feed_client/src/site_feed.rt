@@ -17,8 +17,8 @@ use state_core::State;
 use std::alloc::Global;
 use std::collections::BTreeSet;
 
-/// A feed of a site: what it asks under, the state that it keeps of the site's record, the site, what it asks on, and
-/// what it reports to.
+/// A feed of a site: the bases of footers, the state that it keeps of the site's record, the site, the output for `ask`
+/// lines, and standard error.
 #[derive(Drop)]
 pub struct SiteFeed<T: Intake, O: Drain, E: Drain> {
     pub alloc: Global,
@@ -77,11 +77,11 @@ impl<T: Intake, O: Drain, E: Drain> Taker for SiteFeed<T, O, E> {
     }
 }
 
-/// Reads the lines of a source, as `event_feed::feed_lines` does, and offers what each brings to a site, votes below 0
-/// first and then in order, but for what the state says already. What the site takes in is taken into the state, too, and so is, before more of the
-/// source is read, what others brought to the site. Which changes a line makes the feed ask for is written to the
-/// output before what it brings is offered, as `ask N` lines, in the order of their numbers. What is refused of the
-/// line of number n, counted from 1, is reported on the errors: by the line itself (`reviewgate: events 1 BadEvent n
+/// Reads the lines of a source, as `event_feed::feed_lines` does, and offers the bodies of each to a site, votes below
+/// 0 first and then all in order, except what the state says already. What the site takes in is taken into the state,
+/// too, and so is, before more of the source is read, what others brought to the site. The changes that have to be
+/// queried because of a line are written to the output before its bodies are offered, as `ask N` lines, by number. A
+/// loss of line n, counted from 1, is reported on standard error: by the line itself (`reviewgate: events 1 BadEvent n
 /// KEY`, `reviewgate: events 2 Dropped n`), for the record (`reviewgate: events 1 BadEvent n status`: an abandon or a
 /// restore of a change that is merged) or by the site (`reviewgate: events 6 Refused n NUMBER NAME`). Refusals: those
 /// of `feed_lines`; 4 `WriteFault`, an output failed; 5 `NoMemory`; 8 `Ended`, no answer came from the site; 12

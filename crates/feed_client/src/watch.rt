@@ -1,4 +1,4 @@
-//! Looks whether the session of a site lasts.
+//! Checks whether a session has ended.
 
 use std::io::ErrorKind;
 use std::net::TcpStream;
@@ -7,7 +7,7 @@ use std::time::Duration;
 /// How many milliseconds a look takes.
 const LOOK_MS: u64 = 1;
 
-/// Whether a session is over that has nothing to answer: the site has closed it, or says what nobody has asked for.
+/// Whether a session without an open request has ended: the site has closed it, or sends something unasked.
 pub fn is_over(stream: &TcpStream) -> bool {
     if stream
         .set_read_timeout(Some(Duration::from_millis(LOOK_MS)))

@@ -67,8 +67,8 @@ impl<R: Files + RandomSource + AllocGlobal + Drop> Turn for SystemHost<R> {
     fn left(&self, _session: u64) {}
 }
 
-/// Runs a site at a port whose connections are sealed: how many operations it had at its end, and what it wrote to its
-/// error output.
+/// Runs a site at a port whose connections are sealed: how many operations it had at its end, and what it wrote to
+/// standard error.
 pub fn run_sealed<R, T>(
     rt: &R,
     alloc: Global,
@@ -124,7 +124,7 @@ where
     Ok(String::from_utf8(answers).unwrap_or(String::new(alloc)))
 }
 
-/// How a site ended, what it wrote to its error output, and what was answered beside it.
+/// How a site ended, what it wrote to standard error, and what was answered beside it.
 #[derive(Drop)]
 struct Ran {
     count: usize,
@@ -215,7 +215,7 @@ fn a_key_says_what_its_owner_may(rt: HostRuntime) -> Result<(), Fail> {
     Ok(())
 }
 
-/// A file of keys that others may read, and one that is gone, let nobody in, which is said.
+/// A file of keys that others may read, and one that is gone, admit no client, and that is reported.
 #[test]
 fn a_file_that_is_open_to_others_lets_nobody_in(rt: HostRuntime) -> Result<(), Fail> {
     let alloc = rt.alloc();
@@ -376,8 +376,8 @@ fn a_site_pulls_over_a_sealed_connection(rt: HostRuntime) -> Result<(), Fail> {
     Ok(())
 }
 
-/// What a site writes to its error output that pulls with the key of a name from a port where this is answered, with the
-/// port left out.
+/// What a site that pulls with the key of a name, from a port where this is answered, writes to standard error, without
+/// the port.
 fn pulls_in_vain<R, T>(
     rt: &R,
     alloc: Global,

@@ -34,7 +34,7 @@ fn a_site_is_fed_over_a_sealed_connection(rt: HostRuntime) -> Result<(), Fail> {
     Ok(())
 }
 
-/// Who may only read is told so at the first body, and who has no key at once.
+/// A client with a key for reading is refused at its first body, and a client without a key at once.
 #[test]
 fn a_feed_without_a_key_to_feed_with_ends(rt: HostRuntime) -> Result<(), Fail> {
     let alloc = rt.alloc();

@@ -2,9 +2,9 @@
 //!
 //! Its tests are in the crate `text_tests`.
 //!
-//! It is a crate of its own so that the rule on footers is one function over a message, for the gate, the feed and the
-//! command `footers`. Not taken: the crate `regex`, whose match Zuul uses: the contract would have to speak of the
-//! expression in place of the footer.
+//! It is a crate of its own so that the gate, the feed and the command `footers` share one function for the rule on
+//! footers. Not taken: a regular expression, as Zuul uses: the contract would then define the expression instead of the
+//! footer.
 //!
 //! An example of its use:
 //!

@@ -2,8 +2,8 @@
 //!
 //! Its tests are in the crate `command_tests`.
 //!
-//! It is a crate of its own so that warnings can't change a verdict: nothing that judges uses it. Not taken: refusing
-//! what it warns of, since a gate may be written before the first vote.
+//! It is a crate of its own so that warnings can't change a verdict: no crate that judges uses it. Not taken: refusing
+//! such a gate file, since it may be written before the first vote is cast.
 //!
 //! An example of its use:
 //!

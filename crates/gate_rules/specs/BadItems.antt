@@ -1,4 +1,4 @@
--- Which item of a gate file's list of bases is to blame, and why. The names are the project's own.
+-- Which item of a gate file's list of bases is refused, and why. The names are the project's own.
 use Rattle.std.specs.Prelude.{◌≡◌, ◌<◌, ◌≤◌, ◌+◌, ℕ, List, Some, None, codes, slice_get}
 use Rattle.footer_text.specs.Bases.{IsBase}
 use Rattle.footer_text.specs.Flaws.{HasFlaw, flaw_name}
@@ -16,7 +16,7 @@ pub record IsTaken (place : ℕ) (item : Data) : Type 0 where
   pub is_text : as_str item ≡ Some text
   pub is_base : IsBase text
 
--- it is refused for this
+-- the item at a place is refused for this flaw
 abbrev pub IsRefusedFor : ℕ → Data → ItemFlaw → Type 0
 IsRefusedFor place item TooMany = 8 ≤ place
 IsRefusedFor place item NotText = (place < 8) × (as_str item ≡ None)
@@ -33,7 +33,7 @@ pub record IsFirstRefused (items : List Data) (bad : BadBase) : Type 0 where
   pub before : (earlier : ℕ) (other : Data) → earlier < place → slice_get items earlier ≡ Some other
       → IsTaken earlier other
 
--- it is so of the list of bases
+-- the list under `bases` has this first refused item
 pub record IsBadItem (members : Members) (bad : BadBase) : Type 0 where
   pub items : Items
   pub list : get_member (codes "bases") members ≡ Some (array items)

@@ -55,7 +55,7 @@ pub record IsNoObject (text : List ℕ) (place : Place) : Type 0 where
   pub none : (members : Members) → ¬ IsObject text members
   pub stop : IsStop text place
 
--- Want of memory says nothing of the text.
+-- `NoMemory` says nothing about the text.
 abbrev pub IsRefusalOf : List ℕ → GateFault → Type 0
 IsRefusalOf text (fault.NotJson place) = IsNoObject text place
 IsRefusalOf text (fault.UnknownKey key) = IsFirstFault text (flaw.Unknown, string_bytes key)

@@ -1,4 +1,4 @@
-//! The item of the list of bases that is to blame.
+//! The first item of the list of bases that is refused.
 
 ghost use Rattle.std.specs.Prelude.{◌≡◌, Some, IfSome, MatchOption, map};
 ghost use Rattle.serde_json.specs.View.{view, members_view};

@@ -96,7 +96,7 @@ fn not_json(bytes: &[u8], error: &Error) -> GateFault
     GateFault::NotJson(place_at(bytes, offset_of(bytes, error)))
 }
 
-/// The refusal that names a key, and of the key `bases` the item that is refused, where one is.
+/// The refusal that names a key and, if the key is `bases`, the item that is refused.
 fn blamed(alloc: Global, members: &Map<String, Value>, flaw: Flaw, key: &str) -> GateFault
     ensures key { NamesFault result (flaw, key.now) }
     ensures bad { (bad : Bad) → result ≡ GateFault.BadBases bad → IsBadItem (members_view members.now.entries) bad }
@@ -157,7 +157,7 @@ fn bases_of(alloc: Global, members: &Map<String, Value>) -> Result<Option<Bases>
     }
 }
 
-/// The texts among values, lent.
+/// The texts among values, borrowed.
 fn lent_texts<'a>(alloc: Global, values: &'a [Value]) -> Result<Vec<&'a str>, NoMemory>
     ensures { IfOk result
         (λ texts. map (λ text. text.now) texts.items ≡ texts_of (map view values.now)) }

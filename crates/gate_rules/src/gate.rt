@@ -121,7 +121,7 @@ impl LabelValues {
         LabelValues { label, values }
     }
 
-    /// An equal label, with the same values.
+    /// A copy.
     fn copy(&self) -> Result<LabelValues, NoMemory>
         ensures { IfOk result (λ copy. copy ≡ self.now) }
     {
@@ -132,7 +132,8 @@ impl LabelValues {
 }
 
 impl Pattern {
-    /// Whether the pattern matches the approval. A pattern without a label takes each, and one with two labels none.
+    /// Whether the pattern matches the approval. A pattern without a label matches every label, and one with several
+    /// labels matches none.
     pub fn matches(&self, approval: &Approval<'_>) -> bool
         ensures { result ≡ matches self.now (approval_shown approval.now) }
     {
@@ -156,7 +157,7 @@ impl Pattern {
         &self.labels
     }
 
-    /// Whether the pattern takes this voter.
+    /// Whether the pattern matches this voter.
     fn names(&self, voter: &str) -> bool
         ensures { result ≡ names self.now.username voter.now }
     {
@@ -174,7 +175,7 @@ impl Pattern {
         Pattern { username, labels }
     }
 
-    /// An equal pattern.
+    /// A copy.
     fn copy(&self) -> Result<Pattern, NoMemory>
         ensures { IfOk result (λ copy. copy ≡ self.now) }
     {
@@ -187,7 +188,7 @@ impl Pattern {
     }
 }
 
-/// Equal texts.
+/// Copies texts.
 fn copied_texts(texts: &Option<Vec<String>>) -> Result<Option<Vec<String>>, NoMemory>
     ensures { IfOk result
         (λ copy. option_map (λ list. map string_bytes list.items) copy
@@ -199,7 +200,7 @@ fn copied_texts(texts: &Option<Vec<String>>) -> Result<Option<Vec<String>>, NoMe
     }
 }
 
-/// Whether labels take an approval: none takes each, and two take none.
+/// Whether a list of labels matches an approval: an empty list matches every approval, and one of several labels none.
 fn labels_take(labels: &[LabelValues], approval: &Approval<'_>) -> bool
     ensures { result ≡ labels_take labels.now (approval_shown approval.now) }
 {
@@ -210,21 +211,21 @@ fn labels_take(labels: &[LabelValues], approval: &Approval<'_>) -> bool
 }
 
 impl Clauses {
-    /// Whether a change has to be open, or not open, where either is asked.
+    /// Whether the side asks for an open change (true) or a closed one (false); `None` if it doesn't ask.
     pub fn asks_open(&self) -> Option<bool>
         ensures { result ≡ self.now.is_open }
     {
         self.is_open
     }
 
-    /// Whether a patch set has to be the current one, or not that, where either is asked.
+    /// Whether the side asks for the current patch set (true) or another one (false); `None` if it doesn't ask.
     pub fn asks_current(&self) -> Option<bool>
         ensures { result ≡ self.now.is_current }
     {
         self.is_current
     }
 
-    /// The statuses of which a change has to have one, where it has to.
+    /// The statuses that the side asks for; `None` if it doesn't ask.
     pub fn statuses(&self) -> Option<&[String]>
         ensures { option_map (λ texts. map string_bytes texts.now) result ≡ self.now.status }
     {
@@ -234,7 +235,7 @@ impl Clauses {
         }
     }
 
-    /// What approvals a patch set has to have.
+    /// The patterns of approvals, in the order of the gate file.
     pub fn approvals(&self) -> &[Pattern]
         ensures { result.now ≡ self.now.approvals }
     {
@@ -264,7 +265,7 @@ impl Clauses {
         }
     }
 
-    /// Equal conditions.
+    /// A copy.
     fn copy(&self) -> Result<Clauses, NoMemory>
         ensures { IfOk result (λ copy. copy ≡ self.now) }
     {
@@ -283,7 +284,7 @@ impl Clauses {
 }
 
 impl Clauses {
-    /// Whether a condition holds, where the side has it.
+    /// Whether a condition holds; `None` if the side doesn't have it.
     pub(crate) fn compare(&self, clause: Clause, standing: &Standing<'_>) -> Option<bool>
         ensures { result ≡ compared self.now standing.now clause }
     {
@@ -449,7 +450,7 @@ impl Gate {
         self.cycles
     }
 
-    /// An equal gate, with memory of the same allocator. It costs O(n) for settings of n bytes.
+    /// A copy, with memory of the same allocator. It costs O(n) for settings of n bytes.
     pub fn copy(&self) -> Result<Gate, NoMemory>
         ensures { IfOk result (λ copy. copy ≡ self.now) }
     {

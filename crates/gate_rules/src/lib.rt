@@ -2,7 +2,7 @@
 //!
 //! Its tests are in the crate `gate_tests`.
 //!
-//! It is a crate of its own so that a gate file means the same for every command. Not taken: a derive of `serde` for
+//! It is a crate of its own so that a gate file has one meaning in every command. Not taken: a derive of `serde` for
 //! the gate file, since a refusal has to name the first bad key in a fixed order; Zuul's YAML pipeline itself, which
 //! has much that a record can't answer.
 //!

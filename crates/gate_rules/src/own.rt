@@ -38,14 +38,14 @@ impl<'a> Standing<'a> {
         }
     }
 
-    /// Whether the change is open, or isn't, as is asked.
+    /// Whether the change is open (`asked` is true) or closed (`asked` is false).
     pub fn open_is(&self, asked: bool) -> bool
         ensures { result ≡ same_flag self.now.is_open asked }
     {
         self.change.is_open() == asked
     }
 
-    /// Whether the patch set is the current one, or isn't, as is asked.
+    /// Whether the patch set is the current one (`asked` is true) or not (`asked` is false).
     pub fn current_is(&self, asked: bool) -> bool
         ensures { result ≡ same_flag self.now.is_current asked }
     {
@@ -72,7 +72,7 @@ impl<'a> Standing<'a> {
     }
 }
 
-/// Whether a comparison came out as wanted.
+/// Whether a comparison has the wanted result.
 pub fn came_out(compared: Option<bool>, wanted: bool) -> bool
     ensures { MatchBool result (compared ≡ Some wanted) (compared ≢ Some wanted) }
 {

@@ -11,7 +11,7 @@ use super::keys::{ApprovalKey, ConditionKey, GateKey};
 use super::value::{are_texts, are_votes, listed, text_at};
 use serde_json::{Map, Value};
 
-/// What is wrong at a member.
+/// What is wrong with a member of a JSON object.
 #[derive(Clone, Copy, Debug, PartialEq, Eq)]
 pub enum Flaw {
     Unknown,
@@ -19,7 +19,7 @@ pub enum Flaw {
     Unsupported,
 }
 
-/// What judges the members of one kind of object.
+/// The rules for the members of one kind of JSON object.
 pub trait Judge {
     ghost judged: { Self → List ℕ → Data → Option Fault };
 
@@ -89,7 +89,7 @@ fn approvals_fault<'a>(key: &'a str, values: &'a [Value]) -> Option<(Flaw, &'a s
     None
 }
 
-/// A value that isn't good is named by its key.
+/// The flaw `Bad` with the key, unless the value is good.
 fn good_or_bad(good: bool, key: &str) -> Option<(Flaw, &str)>
     ensures { option_map (λ fault. (fault.0, fault.1.now)) result ≡ good_or_bad good key.now }
 {

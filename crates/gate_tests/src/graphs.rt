@@ -166,8 +166,8 @@ fn merged_changes_are_named(rt: HostRuntime) {
     assert_found(&rt, (known, unknown), (Some(true), Some(true)));
 }
 
-// A dependency stands for its current patch set, an older patch set is an item of its own, and what isn't known has no
-// place.
+// The edge of a dependency ends at its current patch set, an older patch set is an item of its own, and an unknown
+// change has no node.
 const PATCH_SETS_OF_ONE_CHANGE: &[Step] = &[
     PatchSet(1, 1, &[9], None),
     PatchSet(1, 7, &[], None),

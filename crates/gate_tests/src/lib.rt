@@ -1,5 +1,5 @@
-//! Tests of gate files, graphs, chains of what waits, and pictures, through the public functions of their crates. A
-//! crate of tests alone, as `record_tests` is.
+//! Tests of gate files, graphs, the chains that `why` prints, and Graphviz texts, through the public functions of their
+//! crates. A crate of tests alone, as `record_tests` is.
 #![tactic(auto)]
 
 #[cfg(test)]

@@ -1,4 +1,4 @@
-//! What records of tests are made of. What a test lacks where memory is refused is none, or isn't so.
+//! Helpers that make records. If memory is refused a helper returns `None` or false, and the test fails.
 
 use deeds::{Deed, op_of};
 use review_ops::{Body, Draft, Op, Stamp};

@@ -1,4 +1,4 @@
--- What is found in a line: each claim is settled, in order.
+-- The findings of a line: its claims, each checked, in order.
 use Rattle.std.specs.Prelude.{◌≡◌, ◌⊎◌, ℕ, List, [], ◌∷◌, Option, Some, None, IsUtf8}
 use Rattle.std.specs.Prelude.{if◌then◌else◌}
 use Rattle.serde_json.specs.Data.{Data, object, Members}
@@ -63,7 +63,7 @@ known_after known choice None line = known
 known_after known choice (Some kind) line =
     if feeds choice kind line then patches_after known (brought_by known kind line) else known
 
--- what a line is, and what is found in it
+-- the part of Gerrit's output that a line is, and its findings
 pub record Told : Type 0 where
   pub part : Part
   pub findings : List Finding

@@ -1,4 +1,4 @@
-//! What a line claims, before it is settled.
+//! The claims of a line, before they are checked.
 
 ghost use Rattle.std.specs.Prelude.{◌≡◌};
 ghost use Rattle.review_ops.specs.Draft.{deed_of};
@@ -21,7 +21,7 @@ pub enum Claimed {
     Fault(EventFault),
 }
 
-/// A body that a line spells, good or not, what it says beside, or something of the line that is lost.
+/// A claim of a line: a draft, valid or not, a patch set or a listing of votes that it shows, or a loss.
 #[derive(Drop)]
 pub struct Claim {
     claimed: Claimed,
@@ -73,14 +73,14 @@ impl Claim {
         }
     }
 
-    /// Something that is lost for the value under a key.
+    /// A loss because of the value under a key.
     pub fn bad(key: EventKey) -> Claim
         ensures { result ≡ bad key }
     {
         Claim::refuses(EventFault::BadEvent(key))
     }
 
-    /// What is found: a body that is good, or what is wrong with it.
+    /// The finding: the checked body, or the loss of an invalid draft.
     pub fn settled(self) -> Finding
         ensures { IsSettled self result }
     {
@@ -94,7 +94,7 @@ impl Claim {
     }
 }
 
-/// What is found where a draft is claimed: its body, or that it is bad.
+/// The finding of a draft: its body, or the loss of an invalid one.
 fn settled_draft(draft: Draft) -> Finding
     ensures { IsSettled (drafts (deed_of draft)) result }
 {
@@ -104,7 +104,7 @@ fn settled_draft(draft: Draft) -> Finding
     }
 }
 
-/// What is found where a patch set is shown: its body, or that it is bad.
+/// The finding of a shown patch set: its body, or the loss of an invalid one.
 fn settled_shown(draft: Draft) -> Finding
     ensures { IsSettled (shows (deed_of draft)) result }
 {

@@ -35,7 +35,8 @@ use lattice_core::NoMemory;
 use review_ops::Draft;
 use std::alloc::Global;
 
-/// A line of a known kind, beside what is known, with its two numbers and the patch set that it brings.
+/// A line of a known kind, with the revisions seen before, its change and patch set numbers, and the patch set that it
+/// shows.
 #[derive(Clone, Copy)]
 pub struct Event<'k, 'v, 'a> {
     alloc: Global,
@@ -167,7 +168,7 @@ impl<'k, 'v, 'a> Event<'k, 'v, 'a> {
         add(claims, Claim::drafts(draft))
     }
 
-    /// What a row claims of its change. That it is closed comes first.
+    /// What a row claims of its change. A claim that it is closed comes first.
     fn add_row(&self, claims: &mut Vec<Claim>, change: u32) -> Result<(), NoMemory>
         requires { self.now.line.kind ≡ Kind.QueryLine }
         ensures { OnOk result (claims.new.items ≡ claims.old.items
@@ -349,7 +350,7 @@ impl<'k, 'v, 'a> Event<'k, 'v, 'a> {
         vote_of(self.alloc, change, set, label, voter, value)
     }
 
-    /// What a row of a query claims of its patch sets. That the change is open comes last.
+    /// What a row of a query claims of its patch sets. A claim that the change is open comes last.
     fn add_query(&self, claims: &mut Vec<Claim>, change: u32, set: u32) -> Result<(), NoMemory>
         requires { self.now.line.kind ≡ Kind.QueryLine }
         ensures { OnOk result (claims.new.items ≡ claims.old.items
@@ -528,7 +529,7 @@ fn add_lost_footers(claims: &mut Vec<Claim>, are_lost: bool) -> Result<(), NoMem
     Ok(())
 }
 
-/// Adds that so much is lost for a key.
+/// Adds so many losses because of a key.
 fn add_bad(claims: &mut Vec<Claim>, key: EventKey, count: usize) -> Result<(), NoMemory>
     ensures { OnOk result (claims.new.items ≡ claims.old.items ++ replicate count (bad key)) }
 {
@@ -580,7 +581,7 @@ fn withdrawn(change: u32, set: u32, label: String, voter: String) -> Claim
     })
 }
 
-/// That a change is closed, where a row says so.
+/// Claims that a change is closed, if the row says so.
 fn add_closing(claims: &mut Vec<Claim>, change: u32, status: Option<&str>) -> Result<(), NoMemory>
     ensures { OnOk result (claims.new.items ≡ claims.old.items
         ++ closing_claims change (option_map (λ text. text.now) status.entry)) }
@@ -592,7 +593,7 @@ fn add_closing(claims: &mut Vec<Claim>, change: u32, status: Option<&str>) -> Re
     }
 }
 
-/// That a change is open, where a row says so, and that its status is lost, where it says none.
+/// Claims that a change is open, if the row says so, or the loss of its status, if the row has none.
 fn add_opening(claims: &mut Vec<Claim>, change: u32, status: Option<&str>) -> Result<(), NoMemory>
     ensures { OnOk result (claims.new.items ≡ claims.old.items
         ++ opening_claims change (option_map (λ text. text.now) status.entry)) }

@@ -1,4 +1,4 @@
-//! Why something of a line is lost.
+//! The losses of a line.
 
 ghost use Rattle.std.specs.Prelude.{◌≡◌};
 ghost use Rattle.gerrit_events.specs.Fault.{number_of, name_of, named_key, text_of, event_key_of};
@@ -69,10 +69,10 @@ impl EventKey {
     }
 }
 
-/// What is lost of a line.
+/// A loss: something of a line that can't be taken in.
 #[derive(Clone, Copy, Debug, PartialEq, Eq, Error)]
 pub enum EventFault {
-    /// 1: the line is no event, lacks what its kind needs, or makes a body that isn't good.
+    /// 1: the line is no event, lacks an attribute that its kind needs, or gives an invalid body.
     #[error("a bad event")]
     BadEvent(EventKey),
     /// 2: Gerrit dropped events, which have to be read again.

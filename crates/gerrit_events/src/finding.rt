@@ -1,19 +1,19 @@
-//! What is found in a line.
+//! The findings of a line.
 
 use super::fault::EventFault;
 use super::listing::Listing;
 use review_ops::Body;
 
-/// A body that a line brings, what it says beside, or something of it that is refused.
+/// A finding of a line: a body, a patch set or a listing of votes that it shows, or a loss.
 #[derive(Debug, Drop)]
 pub enum Finding {
-    /// A body that is good, with its label in lower case.
+    /// A valid body, with its label in lower case.
     Brings(Body),
-    /// A patch set that an event shows. It was there before the event, so that its message may be that of a later one,
-    /// or this run knows none of its parents: where the record has it, little is new.
+    /// A patch set that an event about something else shows, so its message may be that of a later patch set; or one
+    /// none of whose parents this run knows. If the record has it, at most its parent is new.
     Shows(Body),
     /// All votes of a patch set.
     Lists(Listing),
-    /// What is lost, and the key for which.
+    /// A loss, with the key that is at fault.
     Refuses(EventFault),
 }

@@ -21,8 +21,8 @@ pub struct Seen {
     pub set: u32,
 }
 
-/// What a run keeps between lines: the revisions that it has seen, and room for reading lines. Contracts see the list
-/// of the revisions, the oldest first.
+/// What a run keeps between lines: the revisions that it has seen, and a buffer for parsing. Contracts see the list of
+/// revisions, oldest first.
 #[derive(Drop)]
 pub struct Known {
     pub(crate) revisions: Revisions,
@@ -66,8 +66,8 @@ impl Known {
     }
 }
 
-/// Of at most 100,000 revisions the change and the patch set, by the hashes of their texts. The oldest one is forgotten
-/// first. Contracts see the list of them, the oldest first.
+/// A map from at most 100,000 revisions to their change and patch set. When it is full the oldest revision is
+/// forgotten. Contracts see the list of revisions, oldest first.
 #[derive(Drop)]
 pub struct Revisions {
     alloc: Global,

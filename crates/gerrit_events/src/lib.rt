@@ -1,10 +1,10 @@
-//! What lines that Gerrit writes bring to a review record: its stream of events ("stream-events"), and the lines of
-//! its query ("query"), whose attributes are those of "JSON Data". A line is one JSON object; `docs/FORMATS.md` has
-//! the table of all that is read of it.
+//! What Gerrit's lines add to a review record: those of its event stream ("stream-events") and of the answers to its
+//! queries ("query"), whose attributes are those of "JSON Data". A line is one JSON object; `docs/FORMATS.md` has the
+//! table of everything that is read of it.
 //!
 //! Its tests are in the crate `text_tests`.
 //!
-//! It is a crate of its own so that Gerrit's forms are in one place. Not taken: `serde`'s derives over Gerrit's
+//! It is a crate of its own so that Gerrit's formats are known in one place. Not taken: `serde`'s derives over Gerrit's
 //! attributes, since Gerrit leaves keys out and adds others from version to version.
 //!
 //! | `type` | What it brings |

@@ -13,7 +13,7 @@ use json::Value;
 use lattice_core::NoMemory;
 use std::alloc::Global;
 
-/// Who votes what Gerrit says of a change. No account of that name may vote.
+/// The reserved voter. Votes of a Gerrit account with this name are refused.
 pub const RESERVED_VOTER: &str = "gerrit";
 
 /// What Gerrit says of a change, for which the reserved voter votes -1 on a label.
@@ -41,7 +41,7 @@ impl Mark {
 }
 
 impl<'v, 'a> Line<'v, 'a> {
-    /// What is so of the change.
+    /// The marks that are true of the change.
     pub fn marks(&self, alloc: Global) -> Result<Vec<Mark>, NoMemory>
         ensures { IfOk result (λ marks. marks.items ≡ marks_in self.now.kind (data_in self.now.value.now)) }
     {
@@ -110,7 +110,7 @@ pub fn says(wanted: bool, found: Option<&Value<'_>>) -> bool
     }
 }
 
-/// Adds a mark, where that is so.
+/// Adds a mark, if it is true of the change.
 fn add_mark(marks: &mut Vec<Mark>, mark: Mark, is_so: bool) -> Result<(), NoMemory>
     ensures { OnOk result (marks.new.items ≡ marks.old.items ++ if_so is_so mark) }
 {

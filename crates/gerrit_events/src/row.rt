@@ -1,4 +1,4 @@
-//! The change that a line of a query is of, with where it is to be merged.
+//! The project and the branch of the change in a row of a query.
 
 ghost use Rattle.std.specs.Prelude.{◌≡◌, IfOk, IsUtf8, option_map};
 ghost use Rattle.gerrit_events.specs.Rows.{IsRow, RowSays, Tells, copied, place_in};
@@ -20,7 +20,7 @@ pub struct ChangePlace {
     pub branch: String,
 }
 
-/// What a line of the answer to a query says of where changes are.
+/// A line of the answer to a query, as far as `enqueue` reads it.
 #[derive(Debug, Drop)]
 pub enum QueryLine {
     /// A row: the place of its change.
@@ -31,7 +31,7 @@ pub enum QueryLine {
     Other,
 }
 
-/// The same while the line is held.
+/// The same, borrowed from the line.
 #[derive(Clone, Copy)]
 struct Found<'a> {
     change: u32,

@@ -1,10 +1,10 @@
-//! What is read of a line.
+//! The result of parsing a line.
 
 use super::finding::Finding;
 use super::part::Part;
 use std::marker::Model;
 
-/// What a line is, and what is found in it, in order.
+/// The kind of a line within Gerrit's output, and its findings, in order.
 #[derive(Debug, Drop)]
 pub struct Told {
     pub part: Part,

@@ -47,7 +47,7 @@ end_with : (rounds : List Round) (more : Bool) → 0 < length rounds → Report 
 end_with [] more some report = absurd (omega arith)
 end_with (round ∷ rounds) more some report = report
 
--- where others were left after all of them, each reported that
+-- if more was left after all rounds, each of them reported that
 go_on : (rounds : List Round) → Report rounds true → GoOn rounds
 go_on [] report = tt
 go_on (round ∷ []) report = (report, tt)

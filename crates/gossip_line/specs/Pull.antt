@@ -242,8 +242,8 @@ module _ {K : Type 0} (sinks : K → Offer → Uptake → K → Type 0) where
       × Consumes mid.left after.left came × BreaksPull limit (held ++ came) after.left fault
       × Appends mid.taken after.taken (front_line front)
 
-  -- the sink answered its front, of which nothing was written; or a proper prefix of its line, and then a write failed,
-  -- and nothing more was read
+  -- the sink answered its front, and nothing of it was written; or a proper prefix of its line was written, and then a
+  -- write failed, and nothing more was read
   abbrev pub IsUnasked : Moment K → Moment K → Type 0
   IsUnasked mid after = (front : Reaches) × sinks mid.port fronts (reached front) after.port × (after.taken ≡ mid.taken)
 
@@ -302,7 +302,7 @@ module _ {K : Type 0} (sinks : K → Offer → Uptake → K → Type 0) where
     pub ends : EndWith rounds more
     pub last : (more ≡ false) ⊎ (length rounds ≡ most)
 
-  -- where a pull fails after its whole rounds: in the next one, each of them having reported that others are left, or at
+  -- how a pull fails after its whole rounds: in the next one, if each of them reported that others are left, or at
   -- `quit`
   abbrev pub Stops : ℕ → ℕ → Moment K → List Round → List ℕ → LineFault → Moment K → Type 0
   Stops limit most mid rounds held fault after =

@@ -3,15 +3,15 @@
 ghost use Rattle.std.specs.Prelude.{IfNone, IfSome};
 ghost use Rattle.gossip_line.specs.Commands.{BeginsLine, Follows, Says, version_word, take_word, front_word};
 
-/// The greeting of the version that is spoken here.
+/// The greeting of this protocol version.
 pub const HELLO: &[u8] = b"hello 2";
 
 /// What a line asks for. What follows `take` and `front` isn't read yet.
 #[derive(Drop)]
 pub enum Command<'a> {
-    /// To speak the version that is spoken here.
+    /// To use this protocol version.
     Hello,
-    /// To speak another one.
+    /// To use another version.
     OtherVersion,
     /// To take in a body.
     Take(&'a [u8]),
@@ -21,11 +21,11 @@ pub enum Command<'a> {
     Ready,
     /// To show the state.
     State,
-    /// To note that what feeds the site heard from Gerrit.
+    /// To note that a feed has heard from Gerrit.
     Heard,
     /// To end the session.
     Quit,
-    /// Nothing that is known.
+    /// An unknown command.
     Other,
 }
 

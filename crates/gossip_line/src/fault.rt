@@ -5,14 +5,14 @@ ghost use Rattle.gossip_line.specs.Fault.{number_of, name_of};
 
 use thiserror::Error;
 
-/// Why a session or a pull ended early. The last four are of pulls alone. 8 to 10 are left
-/// out: they are what `serve` and `events` say beside these.
+/// Why a session or a pull ended early. The last four occur in pulls only. 8 to 10 are left out: `serve` and `events`
+/// use them beside these.
 #[derive(Clone, Copy, Debug, PartialEq, Eq, Error)]
 pub enum LineFault {
     /// 1: a line is longer than 524,288 bytes.
     #[error("a line is too long")]
     LongLine,
-    /// 2: the other side speaks another version, or names none first.
+    /// 2: the other side uses another version, or doesn't name one first.
     #[error("another version is spoken")]
     BadVersion,
     /// 3: the source failed, or a session has read as many lines as one may have.

@@ -3,9 +3,9 @@
 //!
 //! Its tests are in the crate `site_tests`.
 //!
-//! It is a crate of its own so that the lines between sites are the same over memory, pipes and sockets. Not taken:
-//! HTTP and gRPC, whose headers and framing a shell can't write by hand; pushing to peers, which needs to know who is
-//! there: a pull needs only the puller's own front.
+//! It is a crate of its own so that the protocol between sites is the same over memory, pipes and sockets. Not taken:
+//! HTTP and gRPC, whose headers and framing a shell can't write by hand; pushing to peers, which needs a list of peers:
+//! a pull needs only the puller's own front.
 //!
 //! | Line | Answer |
 //! |---|---|
@@ -30,8 +30,8 @@
 //! | `no 9 ClockSpent` | no stamp is left |
 //! | `no 10 Closed` | the site has ended |
 //!
-//! A site that knows by its key who asks may answer `no 11 NotAllowed`; these sessions, which may ask for everything,
-//! never do.
+//! A site that authenticates its clients by keys may answer `no 11 NotAllowed`; the sessions of this crate, which are
+//! allowed everything, never do.
 //!
 //! An example of its use:
 //!

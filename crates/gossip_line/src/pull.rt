@@ -164,7 +164,7 @@ fn pull_round<S: Source, D: Drain, K: Sink>(
     }
 }
 
-/// How a pull fails where its sink does.
+/// The fault of a pull for the fault of its sink.
 fn declined(fault: SinkFault) -> LineFault
     ensures { result ≡ fault_of fault }
 {
@@ -227,7 +227,7 @@ pub fn read_round<S: Source>(
     }
 }
 
-/// Reads a line, which has to come.
+/// Reads a line, and fails if none comes.
 fn await_line<S: Source>(reader: &mut LineReader, source: &mut S) -> Result<(), LineFault>
     ensures awaits { (came : List ℕ) × Consumes (S.left source.old) (S.left source.new) came
         × Awaits reader.old came result reader.new }
@@ -244,7 +244,7 @@ fn await_line<S: Source>(reader: &mut LineReader, source: &mut S) -> Result<(), 
     }
 }
 
-/// Whether others are left, where a line says so.
+/// Whether others are left, if the line is `more` or `done`.
 fn rest_of(line: &[u8]) -> Option<bool>
     ensures some { IfSome result (λ more. line.now ≡ rest_word more) }
     ensures none { IfNone result ((more : Bool) → line.now ≢ rest_word more) }
@@ -288,7 +288,7 @@ fn read_operation(alloc: Global, text: &[u8]) -> Result<Op, LineFault>
     }
 }
 
-/// How a pull fails where an operation isn't read.
+/// The fault of a pull for an operation that can't be read.
 fn unread(fault: &OpTextFault) -> LineFault
     ensures { result ≡ unread_fault fault.now }
 {

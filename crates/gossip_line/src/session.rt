@@ -21,8 +21,8 @@ const LINES: usize = 1000000;
 /// has more than 524,288 bytes, which is answered, too; 2 `BadVersion`, the first line isn't `hello 2`, or another
 /// version is named, which is answered, too; 3 `ReadFault`, the source failed, or 1,000,000 lines were answered and
 /// none ended the session; 4 `WriteFault`, the drain failed: what was taken in stays so; 5 `NoMemory`, memory was
-/// refused for reading a line. Want of memory in an answer is answered, and the session goes on. It costs what the
-/// port's answers cost, and O(n) for n bytes that are read and written.
+/// refused for reading a line. If memory is refused for an answer, `no 5 NoMemory` is answered, and the session goes
+/// on. It costs what the port's answers cost, and O(n) for n bytes that are read and written.
 pub fn session_run<S: Source, D: Drain, P: Port>(
     alloc: Global,
     source: &mut S,

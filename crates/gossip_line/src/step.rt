@@ -1,5 +1,4 @@
-//! The steps of a session, also for whoever answers many of them in turn: what a line asks for, and how that is
-//! answered.
+//! The steps of a session, which a loop over many sessions uses, too: what a line asks for, and how that is answered.
 
 ghost use Rattle.std.specs.Prelude.{◌≡◌, ◌++◌, Err, MatchBool, Ok, false, true};
 ghost use Rattle.gossip_line.specs.Answers.{Sends};
@@ -22,10 +21,10 @@ use std::alloc::Global;
 /// What is answered where memory is refused.
 const NO_MEMORY: &str = "no 5 NoMemory\n";
 
-/// What a line asks for, once it is read.
+/// What a line asks for, once it is parsed.
 #[derive(Drop)]
 pub enum Step {
-    /// This is answered, whatever the site has.
+    /// An answer that doesn't depend on the site.
     Says(Saying),
     /// To take in a body.
     Takes(Draft),
@@ -33,12 +32,12 @@ pub enum Step {
     Looks(Look),
 }
 
-/// What is answered whatever a site has.
+/// An answer that doesn't depend on the site.
 #[derive(Clone, Copy, Debug, PartialEq, Eq)]
 pub enum Saying {
-    /// The version that is spoken here.
+    /// This protocol version.
     Greeting,
-    /// Another version is spoken, or none was named first; the session ends.
+    /// The line names another version, or the first line names none; the session ends.
     BadVersion,
     /// Memory was refused for the line.
     NoMemory,
@@ -46,7 +45,7 @@ pub enum Saying {
     BadCommand,
     /// What follows the command isn't read.
     BadText,
-    /// It is noted that what feeds the site heard from Gerrit.
+    /// It is noted that a feed has heard from Gerrit.
     Noted,
     /// The session ends well.
     Farewell,

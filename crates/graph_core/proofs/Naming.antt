@@ -1,4 +1,4 @@
--- One item after the other of those that wait for a change.
+-- The items that wait for a change, one after the other.
 use Rattle.std.proofs.Common.{◌≡◌, ◌∙◌, ℕ, Bool, true, cond, List, ◌∷◌, ap}
 use Rattle.state_core.specs.declared.item.Item.{Item}
 use Rattle.graph_core.specs.ItemGraph.{has, namers_of}

@@ -1,5 +1,5 @@
--- A search for what some items reach: which items are found, and which are ahead, so that what they wait for is still
--- to be found.
+-- A search for the items that some items reach. Items are found, or ahead: their own dependencies are still to be
+-- searched.
 use Rattle.std.specs.Prelude.{◌≡◌, ◌↔◌, ◌⊎◌, ℕ, List, Contains, IsTrue}
 use Rattle.std.specs.Ordering.{nat_cmp, ordering_then}
 use Rattle.std.specs.declared.cmp.Ordering.{Ordering}
@@ -41,7 +41,7 @@ pub record AddsEnds (gate : GateRules) (state : State) (item : Item) (old new : 
   pub adds : (other : Item) → IsDependency gate state item other → Contains new other
   pub items : (other : Item) → Contains new other → Contains old other ⊎ IsItem state other
 
--- the item is found besides, and the ends of its edges are put ahead, where it wasn't found before
+-- the item is added to the found ones; if it is new, the ends of its edges are added to the items ahead
 pub record FindsItem (gate : GateRules) (state : State) (item : Item) (old : BTreeSet (ℕ × ℕ)) (before : List Item) (new : BTreeSet (ℕ × ℕ)) (now : List Item) : Type 0 where
   pub found : (other : Item) → IsFoundItem new other ↔ (IsFoundItem old other ⊎ (other ≡ item))
   pub ahead : (IsFoundItem old item × (now ≡ before)) ⊎ AddsEnds gate state item before now

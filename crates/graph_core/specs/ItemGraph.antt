@@ -68,7 +68,7 @@ namers_of (item ∷ items) [] number = []
 namers_of (item ∷ items) (targets ∷ rows) number =
     if has targets number then item ∷ namers_of items rows number else namers_of items rows number
 
--- the item and the other are at one place of lists side by side
+-- the two are at the same index of two lists
 pub record StandsAt {X : Type 0} (items : List Item) (others : List X) (item : Item) (other : X) : Type 0 where
   pub place : ℕ
   pub here : IsAt items place item

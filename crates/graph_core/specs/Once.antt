@@ -13,7 +13,7 @@ pub record AreOnceEach (numbers once : List ℕ) : Type 0 where
   pub increasing : IsStrictlyIncreasing once
   pub each : (number : ℕ) → Contains once number ↔ Contains numbers number
 
--- so are those that are left of a sorted list where each is dropped that is as the one before
+-- a sorted permutation of a list, without the elements that equal the one before them, has each number of the list once
 pub once_each : (numbers sorted once : List ℕ) → IsPermutation numbers sorted → IsSorted nat_cmp sorted
     → IsFiltered (DiffersFromLast eqb) [] sorted once → AreOnceEach numbers once
 once_each numbers sorted once moved in_order filtered =

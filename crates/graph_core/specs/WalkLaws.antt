@@ -56,7 +56,7 @@ module _ (E : Item → Item → Type 0) (items : List Item) (graph : List (List 
       )
 
   module _ (held : (item other : Item) → Contains items item → E item other → Contains items other) where
-    -- and the other way round, where the items have the ends of their edges
+    -- and conversely, if the ends of all edges are among the items
     pub Leads-places : (Marked : ℕ → Type 0) (P : Item → Type 0)
         → ((place : ℕ) (item : Item) → IsAt items place item → P item → Marked place)
         → (n place : ℕ) (item : Item) → IsAt items place item → Leads E P n item → Leads (HasEdge graph) Marked n place

@@ -33,7 +33,7 @@ pub fn add_items(items: &mut Vec<Item>, change: u32, state: &ChangeState) -> Res
     Ok(())
 }
 
-/// The place of an item of the list.
+/// The index of an item of the list.
 pub fn place_of(items: &[Item], item: Item) -> usize
     requires in_order { IsStrictlySortedBy item_cmp items.now }
     requires there { Contains items.now item }
@@ -42,7 +42,7 @@ pub fn place_of(items: &[Item], item: Item) -> usize
     items.partition_point(|other| *other < item)
 }
 
-/// The place of the last item of a change, if it has any.
+/// The index of the last item of a change, if it has any.
 pub fn last_of(items: &[Item], change: u32) -> Option<usize>
     requires { IsStrictlySortedBy item_cmp items.now }
     ensures { MatchOption result ((place : ℕ) (item : Item) → IsAt items.now place item → item.change ≢ change)

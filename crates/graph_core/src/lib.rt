@@ -2,13 +2,13 @@
 //!
 //! Its tests are in the crate `gate_tests`.
 //!
-//! It is a crate of its own so that what waits for what is known without the gate's conditions on reviews. Not taken:
-//! edges to merged changes, over which a whole history would be reached; a graph that is kept and changed in place,
-//! which costs as much as the verdicts that are kept.
+//! It is a crate of its own so that dependencies are independent of the gate's conditions on reviews. Not taken: edges
+//! to merged changes, over which the whole history would be reached; a graph that is updated in place, which costs as
+//! much as updating the verdicts.
 //!
 //! An item is a known patch set of a change. It names the changes in the `Depends-On:` footers of its message, and the
-//! change of its Git parent, unless that is its own. Those of them that aren't merged are its targets. A target that is
-//! known stands for its current patch set.
+//! change of its Git parent, unless that is its own. Those of them that aren't merged are its targets. The edge to a
+//! known target ends at its current patch set.
 //!
 //! An example of its use:
 //!

@@ -26,7 +26,7 @@ impl<'a> Model for Namers<'a> {
 }
 
 impl<'a> Namers<'a> {
-    /// Those of the items that wait for a change, where each row has what the item beside it waits for.
+    /// The items among these that wait for a change; each row has what the item at its index waits for.
     pub(crate) fn among(items: &'a [Item], targets: &'a [Vec<u32>], change: u32) -> Namers<'a>
         ensures { result ≡ namers_of items.now (map (λ row. row.items) targets.now) change }
     {

@@ -1,4 +1,4 @@
-//! Parts of a state's items that hold what they wait for.
+//! Subsets of a state's items that are closed under dependencies.
 
 ghost use Rattle.std.specs.Prelude.{◌≡◌, ◌↔◌, ℕ, IfOk, IfSome, OnOk, All, Contains, Some, [], ◌∷◌};
 ghost use Rattle.std.specs.List.Sorted.{IsStrictlySortedBy};
@@ -15,12 +15,12 @@ use state_core::{Item, State};
 use std::alloc::Global;
 use std::collections::BTreeSet;
 
-/// How many items a part is looked for in. Where there are more, the part is all items.
+/// How many steps the search takes at most. If it isn't finished by then, the part is all items of the state.
 const WIDEST: usize = 4096;
 
-/// A part of a state's items that has some of them, and holds the current item of each known change that one of them
-/// waits for: these and what they reach, or, where that is much, all items. It costs O(b + n log m) for b bytes of
-/// their messages and n of them with what they wait for, in a state of m items.
+/// The given items and all items that they reach over dependencies; or all items of the state, if the search isn't
+/// finished after `WIDEST` steps. So the current item of each known change that one of them waits for is among them. It
+/// costs O(b + n log m) for b bytes of their messages and n of them with what they wait for, in a state of m items.
 pub fn part_with(
     alloc: Global,
     gate: &Gate,
@@ -42,7 +42,7 @@ pub fn part_with(
     items_of(alloc, state)
 }
 
-/// Finds an item, and puts what it waits for ahead where it wasn't found before.
+/// Marks an item as found; if it is new, adds what it waits for to the items ahead.
 fn find_item(
     alloc: Global,
     gate: &Gate,
@@ -60,7 +60,7 @@ fn find_item(
     add_ends(alloc, gate, state, item, ahead)
 }
 
-/// Puts ahead the current item of each known change that an item waits for.
+/// Adds the current item of each known change that an item waits for to the items ahead.
 fn add_ends(
     alloc: Global,
     gate: &Gate,
@@ -78,7 +78,7 @@ fn add_ends(
     Ok(())
 }
 
-/// Puts ahead the current item of a change, where one is known.
+/// Adds the current item of a change, if one is known, to the items ahead.
 fn add_current(state: &State, number: u32, ahead: &mut Vec<Item>) -> Result<(), NoMemory>
     ensures { OnOk result (AddsCurrent state.now (number ∷ []) ahead.old.items ahead.new.items) }
 {

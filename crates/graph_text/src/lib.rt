@@ -2,8 +2,8 @@
 //!
 //! Its tests are in the crate `gate_tests`.
 //!
-//! It is a crate of its own so that the commands know no drawing. Not taken: pictures made here: Graphviz lays out
-//! better, and its language is text that can be searched.
+//! It is a crate of its own so that the commands don't depend on the format of graphs. Not taken: drawing here:
+//! Graphviz has better layouts, and DOT is text that can be searched.
 //!
 //! An example of its use:
 //!

@@ -1,9 +1,9 @@
-//! A JSON object on one line, as it is written member by member.
+//! Writes a JSON object on one line, member by member.
 //!
 //! Its tests are in the crate `command_tests`.
 //!
-//! It is a crate of its own so that every answer in JSON is written by the same few members. Not taken: a tree of
-//! values that is printed in the end, which would hold a long list twice.
+//! It is a crate of its own so that every answer in JSON is written by the same few functions. Not taken: a tree of
+//! values that is printed at the end, which would hold a long list in memory twice.
 //!
 //! An example of its use:
 //!

@@ -1,5 +1,5 @@
-//! Tests of `ready_core` through its public functions: records with their verdicts, and a slow plain program beside the
-//! search. A crate of tests alone, as `record_tests` is.
+//! Tests of `ready_core` through its public functions: records with their expected verdicts, and a comparison of the
+//! search with a slow plain program. A crate of tests alone, as `record_tests` is.
 #![tactic(auto)]
 
 #[cfg(test)]

@@ -1,4 +1,4 @@
-//! A slow plain program beside the search, which knows nothing of graphs and walks, and the two compared.
+//! A slow plain program, without graphs and walks, that the search is compared with.
 
 use super::reviews::{CYCLES, GATE, Review};
 use gate_rules::{Clause, Condition, Side};

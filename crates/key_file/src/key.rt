@@ -5,7 +5,7 @@ ghost use Rattle.key_file.specs.Files.{KeyEntry};
 
 use std::marker::Model;
 
-/// What who has a key may do.
+/// What a key allows.
 #[derive(Clone, Copy, Debug, PartialEq, Eq)]
 pub enum Role {
     /// Look: `ready`, `state`, `front`.
@@ -14,7 +14,7 @@ pub enum Role {
     Feed,
 }
 
-/// A key: its name, what who has it may do, and its secret. Nothing prints it.
+/// A key: its name, its role and its secret. No function prints it.
 #[derive(Drop)]
 pub struct Key {
     name: Vec<u8>,
@@ -43,7 +43,7 @@ impl Key {
         &self.name
     }
 
-    /// What who has it may do.
+    /// Its role.
     pub fn role(&self) -> Role
         ensures { result ≡ self.now.role }
     {

@@ -1,9 +1,9 @@
-//! The file of keys that a site lets in, and that it dials with.
+//! The file of the keys that a site accepts, and that it uses as a client.
 //!
 //! Its tests are in the crate `seal_tests`.
 //!
-//! It is here since both sides have to name a key without disclosing it, and one line is edited to withdraw it.
-//! Not taken: TOML, whose values would be printed with an error.
+//! It is a crate of its own because client and server have to name a key without disclosing it; removing its line from
+//! the file revokes it. Not taken: TOML, whose parse errors quote the values.
 //!
 //! An example of its use:
 //!

@@ -1,9 +1,9 @@
-//! Opens the file of keys, which has to be its user's own.
+//! Opens the file of keys, which has to be owned by the user, without permissions for others.
 //!
 //! Its tests are in the crate `seal_tests`.
 //!
-//! It is here, beside `key_file`, so that what reads a file's text needs no files. Not taken: a check of the file by
-//! its name before it is opened, since another file could have that name by then.
+//! It is a crate of its own so that `key_file`, which parses the text, needs no file system. Not taken: a check of the
+//! file by its name before it is opened, since the file could be replaced in between.
 //!
 //! An example of its use:
 //!

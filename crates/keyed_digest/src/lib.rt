@@ -1,9 +1,9 @@
-//! HMAC-SHA-256 (RFC 2104, RFC 4231): tags that only who has the key can make.
+//! HMAC-SHA-256 (RFC 2104, RFC 4231): authentication tags.
 //!
 //! Its tests are in the crate `seal_tests`.
 //!
-//! It is here since the toolchain has SHA-256 and no HMAC. Not taken: a tag by SHA-256 of the key and the message, to
-//! which bytes can be added without the key.
+//! It is a crate of its own because the toolchain has SHA-256 but no HMAC. Not taken: SHA-256 of the key and the
+//! message, which allows length-extension attacks.
 //!
 //! An example of its use:
 //!

@@ -1,15 +1,16 @@
-//! States that replicas merge by a join: in whatever order, grouping and number they are joined, the same state comes
-//! out.
+//! Join-semilattices, the states that replicas merge: the result is the same in whatever order, grouping and number
+//! states are joined.
 //!
 //! Its tests are in the crate `change_tests`.
 //!
-//! It is a crate of its own so that the promise on gossip rests on a few laws that know nothing of reviews. Not taken:
+//! It is a crate of its own so that convergence rests on a few laws that are independent of reviews. Not taken:
 //! operation-based counters and sequences (CRDTs that need causal delivery, which gossip that loses and repeats doesn't
 //! give), and a join as a bare function, whose laws each user would prove again.
 //!
 //! `Join` is the trait of such states, with its laws. `Flag`, `Register` and `Greatest` are the least of them; `Both`
-//! and `JoinMap` are made of others, and their laws follow from those of their parts. `Keep` is the trait of what they
-//! hold: keys and values with an exact order. Contracts speak of shapes: what values are, wherever they lie in memory.
+//! and `JoinMap` are made of others, and their laws follow from those of their parts. `Keep` is the trait of the keys
+//! and values that they hold: types with an exact order. Contracts speak of shapes, which are values without their
+//! addresses in memory.
 //!
 //! An example of its use:
 //!

@@ -1,10 +1,10 @@
-//! Reads the operations of many whole lines at once, by threads side by side.
+//! Reads the operations of many whole lines in parallel threads.
 //!
 //! Its tests are in the crate `batch_tests`.
 //!
-//! A reader of snapshots or journals cuts its lines and judges each itself. Where many lines come at once it may ask
-//! here for their operations first: of lines in the form in which they are written it gets all of them, in order, and
-//! of anything else nothing, so that each refusal is its own.
+//! A reader of snapshots or journals splits its text into lines and checks each line itself. Before that it may pass a
+//! block of whole lines to this crate: if all lines are in exactly the form that is written, it gets their operations,
+//! in order; else it gets nothing, reads the lines one by one, and reports the first bad one itself.
 //!
 //! An example of its use:
 //!

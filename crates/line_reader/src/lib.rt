@@ -2,9 +2,9 @@
 //!
 //! Its tests are in the crate `site_tests`.
 //!
-//! It is here since a line from a socket has a limit, and a longer one has to be passed over without being held.
-//! Not taken: `BufRead::read_line`, which has no limit, and `tokio_util`'s `LinesCodec`, which brings a runtime of
-//! futures.
+//! It is a crate of its own because lines from a socket have a maximum length, and a longer line is skipped without
+//! being held in memory. Not taken: `BufRead::read_line`, which has no limit, and `tokio_util`'s `LinesCodec`, which
+//! brings a runtime of futures.
 //!
 //! An example of its use:
 //!

@@ -117,7 +117,7 @@ impl<A: Allocator + Copy> LineReader<A> {
 }
 
 impl<A: Allocator + Copy> LineReader<A> {
-    /// Gives up the bytes before those that are held.
+    /// Drops the bytes before the held ones.
     fn drop_front(&mut self)
         ensures held { self.new.held ≡ self.old.held }
         ensures limit { self.new.limit ≡ self.old.limit }
@@ -128,7 +128,7 @@ impl<A: Allocator + Copy> LineReader<A> {
         self.next = 0;
     }
 
-    /// Gives up what is held up to the first LF, and says whether there was one.
+    /// Drops the held bytes up to the first LF. Returns whether there was one.
     fn pass_held(&mut self) -> bool
         ensures passes { PassesHeld self.old.held result self.new.held }
         ensures limit { self.new.limit ≡ self.old.limit }

@@ -1,4 +1,4 @@
--- Texts as they stand in HTML (WHATWG, HTML Living Standard, section 13.1.4 "Character references").
+-- Texts as they are escaped in HTML (WHATWG, HTML Living Standard, section 13.1.4 "Character references").
 use Rattle.std.specs.Prelude.{ℕ, List, ◌==◌, codes, encode_utf8, flat_map, if◌then◌else◌}
 use Rattle.markup_text.specs.Shown.{shown_text}
 
@@ -12,6 +12,6 @@ escaped letter =
     else (if letter == 39 then codes "&#39;"
     else encode_utf8 letter))))
 
--- what a reader sees of the text, as it stands in HTML
+-- the text with its hidden characters shown, as it is escaped in HTML
 abbrev pub html_of : List ℕ → List ℕ
 html_of text = flat_map escaped (shown_text text)

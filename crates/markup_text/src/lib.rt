@@ -2,10 +2,10 @@
 //!
 //! Its tests are in the crate `page_tests`.
 //!
-//! It is a crate of its own so that no page can take a text for markup: only texts of the program itself pass as they
-//! are. Refused memory is answered once, at the end, so that what writes a page has no exit for each piece. Not taken:
-//! templates, whose holes would have to be proved escaped one by one; removing what looks dangerous from a text, which
-//! changes what it says.
+//! It is a crate of its own so that no page can mistake a text for markup: only `&'static str` of the program is
+//! written unescaped. A failed allocation is reported once, by `end`, so that the code that writes a page needs no `?`
+//! for each piece. Not taken: templates, whose holes would have to be proved escaped one by one; removing what looks
+//! dangerous from a text, which changes what it says.
 //!
 //! An example of its use:
 //!

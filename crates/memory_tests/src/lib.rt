@@ -1,5 +1,6 @@
-//! Each request for memory refused in turn, by an allocator that refuses just one: what is answered then, what holds
-//! after it, and that the call made again with memory gives the whole. A crate of tests alone, as `record_tests` is.
+//! Tests in which each allocation fails in turn, by an allocator that refuses just one: what the call returns, what
+//! state it leaves, and that the same call with enough memory then succeeds. A crate of tests alone, as `record_tests`
+//! is.
 #![tactic(auto)]
 
 #[cfg(test)]

@@ -1,4 +1,4 @@
-//! What is looked for in a record.
+//! Look-ups in a record.
 
 use super::operations::{Deed, draft_of, op_of};
 use super::turns::{Call, Memory, Seen, assert_each};

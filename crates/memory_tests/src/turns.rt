@@ -1,4 +1,4 @@
-//! How many requests for memory a call makes, each of which was refused in turn.
+//! How many allocations a call makes, each of which failed in turn.
 
 use refusing_memory::{Refusing, requests};
 pub(super) use refusing_memory::{Call, Seen};

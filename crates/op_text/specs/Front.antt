@@ -78,7 +78,7 @@ entries_data (entry ∷ entries) = item (entry_data entry) (entries_data entries
 unfoldable pub front_text : Reaches → List ℕ
 front_text front = compact_text (array (entries_data (entries_of front)))
 
--- What each refusal of a front's text says. Want of memory says nothing of it.
+-- What each refusal of a front's text means. `NoMemory` says nothing about the text.
 abbrev pub IsFrontRefusal : List ℕ → OpTextFault → Type 0
 IsFrontRefusal text NotJson = (values : Items) → ¬ IsList text values
 IsFrontRefusal text (BadShape key) = (string_bytes key ≡ codes "front") × (values : Items) × IsList text values

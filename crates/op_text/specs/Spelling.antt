@@ -66,7 +66,7 @@ pub record SpellsOperation (text : List ℕ) (op : Operation) : Type 0 where
   pub faultless : IsFaultless deed
   pub kept : op.deed ≡ kept_deed deed
 
--- What each refusal of a text says. Want of memory says nothing of it.
+-- What each refusal of a text means. `NoMemory` says nothing about the text.
 abbrev pub IsRefusalOf : Form → List ℕ → OpTextFault → Type 0
 IsRefusalOf kind text NotJson = (members : Members) → ¬ IsOperationObject text members
 IsRefusalOf kind text (BadShape key) =

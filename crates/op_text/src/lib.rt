@@ -2,9 +2,9 @@
 //!
 //! Its tests are in the crate `text_tests`.
 //!
-//! It is a crate of its own so that snapshots, journals, sessions and scripts share one text of an operation.
-//! Not taken: a binary form, which nobody can read or compare with other tools; `serde`'s derives, since a refusal has
-//! to name the first bad key. What is in the form that is written is read by one walk, and all else by `serde_json`.
+//! It is a crate of its own so that snapshots, journals, sessions and scripts share one text format for operations. Not
+//! taken: a binary format, which people and other tools can't read; `serde`'s derives, since a refusal has to name the
+//! first bad key. A text in exactly the form that is written is read in one pass, and any other by `serde_json`.
 //!
 //! An operation is one JSON object (RFC 8259), read as serde_json's `Value` reads it and written compactly, with its
 //! members in byte order of their keys, on one line. `op` says the kind; a body is the same object without `seq`,

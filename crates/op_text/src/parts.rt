@@ -242,7 +242,7 @@ fn are_plain(text: &[u8], at: usize) -> bool
     stops.to_bitmask() == 0
 }
 
-/// The byte that an escape of one letter stands for. Escapes by a number are left to the JSON reader.
+/// The byte of an escape of one letter. Escapes by a number are left to the JSON reader.
 fn escaped(text: &[u8]) -> Option<(u8, &[u8])>
     ensures { IfSome result (λ (byte, rest). text.now ≡ escape_byte byte ++ rest.now) }
 {

@@ -5,7 +5,7 @@ use Rattle.std.specs.Str.{bytes_eq}
 use Rattle.std.specs.Str.Lossy.{utf8_lossy}
 use Rattle.form_urlencoded.specs.Form.{decode, raw_pairs}
 
--- the text that a name or a value stands for; what isn't UTF-8 in it becomes U+FFFD
+-- the decoded text of a name or a value; bytes that aren't UTF-8 become U+FFFD
 abbrev pub form_text : List ℕ → List ℕ
 form_text bytes = utf8_lossy (decode bytes)
 

@@ -1,4 +1,4 @@
-//! Which request asks for what.
+//! Matches the target of a request to a route.
 
 ghost use Rattle.std.specs.Prelude.{◌≡◌, ◌≢◌, ◌++◌, IfOk, ℕ, List, MatchOption, option_map};
 ghost use Rattle.std.specs.Option.{option_copied};
@@ -67,14 +67,14 @@ fn items(choice: Option<Choice>) -> Option<Route>
     choice.map(Route::Items)
 }
 
-/// What a path says after its first part.
+/// The rest of a path after a prefix.
 fn after<'a>(path: &'a str, front: &str) -> Option<&'a str>
     ensures { MatchOption result ((rest : List ℕ) → path.now ≢ front.now ++ rest) (λ rest. path.now ≡ front.now ++ rest.now) }
 {
     path.strip_prefix(front)
 }
 
-/// The route of a path that says all of it.
+/// The route of a path without parameters.
 fn plain_route(path: &str) -> Option<Route>
     ensures { FindsNumber (IsPlainRoute path.now) result }
 {

@@ -10,7 +10,7 @@ use super::number::{is_text, number_of};
 use super::route::{Choice, Reason, Shown};
 use std::alloc::{AllocError, Global};
 
-/// How many bytes the words have at most that are looked for.
+/// The maximum length of the search words, in bytes.
 const MAX_WORDS: usize = 200;
 
 /// Which items a query asks for; nothing where a value is none of those that its key takes.

@@ -35,7 +35,7 @@ fn value_in(alloc: Global, name: &str, query: &[u8]) -> Result<String, AllocErro
     Ok(String::new(alloc))
 }
 
-/// Whether a name that is still encoded stands for a name.
+/// Whether an encoded name decodes to a name.
 fn is_name(alloc: Global, key: &[u8], name: &str) -> Result<bool, AllocError>
     ensures { IfOk result (λ same. same ≡ bytes_eq (form_text key.now) name.now) }
 {
@@ -43,7 +43,7 @@ fn is_name(alloc: Global, key: &[u8], name: &str) -> Result<bool, AllocError>
     Ok(key.as_str() == name)
 }
 
-/// The text that a name or a value stands for.
+/// The decoded text of a name or a value.
 fn text_of(alloc: Global, bytes: &[u8]) -> Result<String, AllocError>
     ensures { IfOk result (λ text. string_bytes text ≡ form_text bytes.now) }
 {

@@ -1,11 +1,12 @@
-//! The routes of the page of a site: which request asks for what, and what a page is that answers it.
+//! The routes of a site's pages: how the target of a request is matched to a route, and the type of the page that
+//! answers it.
 //!
 //! Its tests are in the crate `page_server_tests`.
 //!
-//! It is a crate of its own so that who writes the pages and who serves them share these types and nothing else, and so
-//! that the table of the routes is proved apart from both. Not taken: a router with patterns, whose precedence a reader
-//! would have to know; its own decoding of forms and percent signs, which `form_urlencoded` has; JSON bodies as
-//! requests, since the page is read only.
+//! It is a crate of its own so that the crate that writes the pages and the one that serves them share only these
+//! types, and the table of routes is proved independently of both. Not taken: a router with patterns, whose precedence
+//! a reader would have to know; its own decoding of query strings and percent-encoding, which `form_urlencoded` has;
+//! request bodies in JSON, since the pages are read-only.
 //!
 //! An example of its use:
 //!

@@ -1,4 +1,4 @@
-//! What is answered.
+//! The type of an answer.
 
 /// A page that is answered.
 #[derive(Debug, Drop)]
@@ -8,7 +8,7 @@ pub struct Page {
     pub body: Vec<u8>,
 }
 
-/// Whether what was asked for is there.
+/// The HTTP status of a page.
 #[derive(Clone, Copy, Debug, PartialEq, Eq)]
 pub enum Status {
     /// 200.
@@ -19,7 +19,7 @@ pub enum Status {
     Unavailable,
 }
 
-/// The kind of a text.
+/// The content type of a page.
 #[derive(Clone, Copy, Debug, PartialEq, Eq)]
 pub enum Kind {
     /// `text/html; charset=utf-8`

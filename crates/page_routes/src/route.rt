@@ -1,4 +1,4 @@
-//! What can be asked of the page of a site.
+//! The routes of a site's pages.
 
 /// What a request asks for.
 #[derive(Debug, PartialEq, Eq, Drop)]
@@ -7,7 +7,7 @@ pub enum Route {
     List(Choice),
     /// A change, or one of its patch sets, as a page for people.
     Change(Place),
-    /// How the site is, as JSON.
+    /// The status of the site, as JSON.
     Status,
     /// The items, as JSON.
     Items(Choice),
@@ -15,9 +15,9 @@ pub enum Route {
     ChangeData(Place),
     /// What changed, as server-sent events.
     Events,
-    /// The site's figures, in the text format of Prometheus.
+    /// The metrics of the site, in the text format of Prometheus.
     Metrics,
-    /// Whether the site is well.
+    /// The health check.
     Health,
     /// The style of the pages.
     Style,

@@ -1,4 +1,4 @@
--- How a request is answered.
+-- The responses to requests.
 use Rattle.std.specs.Prelude.{◌≡◌, ◌⊎◌, ℕ, Bool, true, false, List, [], ◌∷◌, ◌++◌, Option, codes, take}
 use Rattle.std.specs.Str.{bytes_eq}
 use Rattle.http_header.specs.FieldValue.{FieldValue}
@@ -68,7 +68,7 @@ abbrev pub IsFailure : Bool → Option FieldValue → Response → Type 0
 IsFailure for_programs date response =
     IsRefusalResponse NoMemory for_programs date response ⊎ IsResponse 503 [] [] response
 
--- who makes the pages: which page answers a route, and what a request leaves for which none is made
+-- the maker of pages: which page answers a route, and the effect of a request that gets no page
 module _ {P : Type 0} (pages : P → Route → Page → P → Type 0) (moves : P → P → Type 0) where
   -- what a refusal leaves: only one for another host is noted
   abbrev pub Leaves : Refusal → P → P → Type 0

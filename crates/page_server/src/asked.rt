@@ -20,7 +20,7 @@ use std::alloc::{AllocError, Global};
 pub enum Asked {
     /// A page.
     Page(Route),
-    /// Nothing that is answered by a page.
+    /// No page: the request is refused.
     Refused(Refusal),
 }
 

@@ -12,17 +12,17 @@ use std::io::{ErrorKind, Read};
 use std::net::Shutdown;
 use std::time::Duration;
 
-/// For how many seconds a request may come, from its first byte on.
+/// The time-out of a request, in seconds from its first byte.
 const REQUEST_LIMIT: u64 = 10;
 
-/// For how many seconds a connection may be silent: nothing comes, and nothing of what is sent is taken.
+/// The idle time-out of a connection, in seconds: nothing is received, and nothing can be sent.
 const SILENCE_LIMIT: u64 = 60;
 
-/// For how many seconds nothing of an answer may be taken while there is no room for more answers.
+/// The time-out, in seconds, of a connection that reads nothing of its answer while no further answers may be made.
 const STUCK_LIMIT: u64 = 1;
 
-/// For how many seconds what still comes is dropped once all is sent. A connection that is closed before would lose
-/// what was sent last (RFC 9112, section 9.6).
+/// For how many seconds received bytes are discarded after the last answer. If the connection were closed at once, that
+/// answer could be lost (RFC 9112, section 9.6).
 const LEAVE_LIMIT: u64 = 1;
 
 /// How many reads and writes are done in a turn.
@@ -38,11 +38,11 @@ pub(crate) struct Client {
     may_write: bool,
     /// How many bytes of its answers wait to be sent, but for a few of their heads.
     waiting: u64,
-    /// Whether there was room for more answers when it was looked at last.
+    /// Whether further answers may be made, as of the last turn.
     has_room: bool,
     /// When something last came or went.
     heard: Duration,
-    /// When a request began to come that isn't answered yet.
+    /// When the first byte of a request came that isn't answered yet.
     begun: Option<Duration>,
     /// When all was sent.
     left: Option<Duration>,
@@ -96,8 +96,8 @@ impl Client {
             || (self.may_read && self.has_room && self.connection.wants_read())
     }
 
-    /// Whether the connection is to be closed: it failed, all is sent and the other side has seen that, or there is no
-    /// patience left with the other side, of which there is less where there is no room for more answers.
+    /// Whether the connection is to be closed: it failed, everything was sent and the other side has closed, or it
+    /// timed out. The time-out is shorter while no further answers may be made.
     pub(crate) fn is_over(&self, now: Duration, has_room: bool) -> bool {
         self.is_over
             || (!has_room && self.waiting > 0 && is_past(Some(self.heard), STUCK_LIMIT, now))
@@ -186,7 +186,7 @@ impl Client {
         }
     }
 
-    /// Ends the connection where an error isn't one of waiting.
+    /// Ends the connection, unless the error is `WouldBlock` or `Interrupted`.
     fn note(&mut self, error: &io::Error) {
         self.is_over = !is_waiting(error);
     }
@@ -197,7 +197,7 @@ impl Client {
         self.is_over = self.stream.shutdown(Shutdown::Write).is_err();
     }
 
-    /// Drops what still comes.
+    /// Discards what is still received.
     fn drop_what_comes(&mut self, scratch: &mut [u8]) {
         match self.stream.read(scratch) {
             Ok(0) => self.is_over = true,

@@ -2,11 +2,12 @@
 //!
 //! Its tests are in the crate `page_server_tests`.
 //!
-//! It is a crate of its own so that what is answered is proved apart from sockets: `PageService` is a service of
+//! It is a crate of its own so that responses are proved independently of sockets: `PageService` is a service of
 //! `http_server`, over requests and responses as values, and `serve_pages` only moves bytes. Not taken: a thread for
 //! each connection, which would need a lock around the pages; `hyper`, whose futures would need an executor; TLS and
-//! passwords, since it listens on this machine alone; entity tags of pages, since every page is made anew, while the
-//! style, the script and the icon have them; streams of events, since a whole answer that says when to ask again does.
+//! passwords, since it listens on this machine alone; entity tags for pages, since each page is generated per request
+//! (the style, the script and the icon have entity tags); long-lived event streams, since a short answer with a `retry`
+//! interval suffices.
 //!
 //! A site gives its pages by `Pages`, makes an endpoint of a listener, and serves there in a thread of its own until it
 //! is asked to stop.

@@ -15,16 +15,16 @@ use std::alloc::{AllocError, Global};
 use std::sync::Wait;
 use std::time::{Clock, Duration, Instant, SystemTime};
 
-/// For how many seconds a turn waits for something to do.
+/// For how many seconds a turn waits for an event.
 const TICK: u64 = 1;
 
-/// For how many milliseconds a poll that failed is let be.
+/// For how many milliseconds the loop pauses after a failed poll.
 const PAUSE_MS: u64 = 100;
 
 /// How many connections are accepted in a turn.
 const PER_TURN: usize = 64;
 
-/// How many things are noted in a turn.
+/// How many events of the poll are handled in a turn.
 const EVENTS: usize = 256;
 
 /// How many bytes are dropped at once.

@@ -1,4 +1,4 @@
-//! Who makes the pages.
+//! The trait of those who make the pages.
 
 ghost use Rattle.std.specs.Prelude.{IfOk, OnErr};
 ghost use Rattle.page_routes.specs.declared.page.Page.{Page};
@@ -7,7 +7,7 @@ ghost use Rattle.page_routes.specs.declared.route.Route.{Route};
 use page_routes::{Page, Route};
 use std::alloc::AllocError;
 
-/// Who makes the pages: what a site shows of itself.
+/// Makes the pages of a site.
 pub trait Pages {
     // From the first state, the page answers the route and leaves the second state.
     ghost pages: { Self → Route → Page → Self → Type 0 };
@@ -15,7 +15,7 @@ pub trait Pages {
     // A request for which no page is made leads from the first state to the second.
     ghost moves: { Self → Self → Type 0 };
 
-    /// The page of a route. The error is for memory alone.
+    /// The page of a route. The only error is refused memory.
     fn page(&mut self, route: &Route) -> Result<Page, AllocError>
         ensures ok { IfOk result (λ page. pages self.old route.now page self.new) }
         ensures err { OnErr result (moves self.old self.new) };

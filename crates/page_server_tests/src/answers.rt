@@ -1,4 +1,4 @@
-//! What requests are answered, over bytes in memory.
+//! Requests and their responses, over bytes in memory.
 
 use super::shelf::Shelf;
 use http_server::{Connection, State};
@@ -473,7 +473,7 @@ fn are_told_apart(hosts: &[String]) -> bool {
     are_own && !is_other
 }
 
-/// Whether a server's host is told apart from others.
+/// Whether a server's host is distinguished from others.
 fn is_told_apart(alloc: Global) -> bool {
     match String::from_str(alloc, "gate.example.org") {
         Ok(host) => are_told_apart(slice::from_ref(&host)),

@@ -1,4 +1,4 @@
-//! Which target asks for what.
+//! Which target leads to which route.
 
 use page_routes::{Route, route_of};
 use std::alloc::{AllocError, Global};

@@ -1,4 +1,4 @@
-//! What is answered to programs, as whole texts.
+//! The answers in JSON and other data formats, as whole texts.
 
 use super::record::shows;
 use page_routes::{Choice, Kind, Place, Route, Shown, Status};
@@ -88,7 +88,7 @@ fn the_event_has_the_numbers_of_items(rt: HostRuntime) {
     assert!(rt; is_shown);
 }
 
-/// The figures.
+/// The metrics.
 const METRICS: &str = r#"# HELP reviewgate_operations Operations of the record.
 # TYPE reviewgate_operations gauge
 reviewgate_operations 10
@@ -204,7 +204,7 @@ fn what_never_changes_is_answered(rt: HostRuntime) {
     assert!(rt; has_script);
 }
 
-/// Without a record the style has its page, and the figures have none.
+/// Without a record the style has its page, and the metrics have none.
 #[test]
 fn what_never_changes_needs_no_record(rt: HostRuntime) -> Result<(), Fail> {
     let alloc = rt.alloc();

@@ -1,4 +1,4 @@
-//! Texts as they stand in HTML.
+//! Texts as they are escaped in HTML.
 
 use super::record::is_made_of;
 use markup_text::{
@@ -7,7 +7,7 @@ use markup_text::{
 };
 use std::alloc::Global;
 
-/// Whether a text stands in HTML so.
+/// Whether a text is written as this HTML.
 fn is_written(alloc: Global, text: &str, html: &str) -> bool {
     let mut page = Markup::new(alloc);
     page.add(&[
@@ -39,7 +39,7 @@ const TEXTS: [(&str, &str); 6] = [
     ),
 ];
 
-/// Whether each of them stands in HTML so.
+/// Whether each of them is written as its HTML.
 fn are_written(alloc: Global) -> bool {
     let mut are_so = true;
     for (text, html) in TEXTS {

@@ -1,4 +1,4 @@
-//! The pages for people, as whole texts.
+//! The pages in HTML, as whole texts.
 
 use super::record::shows;
 use page_routes::{Choice, Kind, Place, Route, Shown, Status};

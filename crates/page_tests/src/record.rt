@@ -1,4 +1,4 @@
-//! The records whose pages are looked at, and what is asked of them.
+//! The records that the tests of pages use, and requests for their pages.
 
 ghost use Rattle.std.specs.List.Sorted.{IsStrictlySortedBy};
 ghost use Rattle.state_core.specs.Items.{item_cmp};

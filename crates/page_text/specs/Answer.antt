@@ -1,4 +1,4 @@
--- What is answered to each route (RFC 9110, section 15.3.1 "200 OK" and section 15.5.5 "404 Not Found").
+-- The answer to each route (RFC 9110, section 15.3.1 "200 OK" and section 15.5.5 "404 Not Found").
 use Rattle.std.specs.Prelude.{◌≡◌, ℕ, List, ◌++◌, codes, decimal, length}
 use Rattle.json.specs.Print.{print}
 use Rattle.gate_rules.specs.Rules.{GateRules}

@@ -1,4 +1,4 @@
--- What open items can be held by, as the metrics count it: one of the approvals, or a refusal of another kind.
+-- The causes that hold up open items, as the metrics count them: one of the approvals, or a refusal of another kind.
 use Rattle.std.specs.Prelude.{ℕ, Bool, true, false, ◌&&◌, ◌==◌, List, ◌++◌, codes, decimal}
 use Rattle.gate_rules.specs.Words.{side_name}
 use Rattle.gate_rules.specs.declared.condition.Clause.{Clause}

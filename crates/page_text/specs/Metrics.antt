@@ -1,5 +1,5 @@
--- The figures of a site as metrics. The names follow Prometheus's rules ("Metric and label naming"); what is counted is
--- the project's own.
+-- The metrics of a site. The names follow Prometheus's rules ("Metric and label naming"); what is counted is the
+-- project's own.
 use Rattle.std.specs.Prelude.{ℕ, zero, suc, Bool, true, false, List, [], ◌∷◌, ◌++◌, Option, None, Some, codes}
 use Rattle.std.specs.Prelude.{count_by, decimal, flat_map, length, string_bytes}
 use Rattle.change_core.specs.Status.{status_name}
@@ -35,13 +35,13 @@ status_counts_text state =
     family (codes "reviewgate_changes") (codes "gauge") (codes "Changes of the record by status.")
     ++ status_text state New ++ status_text state Abandoned ++ status_text state Merged
 
--- the figures of the record: its operations, its changes, and the items that are ready
+-- the metrics of the record: its operations, its changes, and the items that are ready
 abbrev pub record_text : ℕ → State → ℕ → List ℕ
 record_text operations state ready =
     gauge (codes "reviewgate_operations") (codes "Operations of the record.") operations ++ status_counts_text state
     ++ gauge (codes "reviewgate_ready_items") (codes "Items that may enter the pipeline.") ready
 
--- how many items are held so
+-- how many items this cause holds up
 abbrev pub held_text : List Left → Held → List ℕ
 held_text out held =
     labelled (codes "reviewgate_held_items") (codes "reason") (held_words held)
@@ -52,7 +52,7 @@ abbrev pub age_text : List ℕ → Option ℕ → List ℕ
 age_text name None = []
 age_text name (Some age) = milli_sample name age
 
--- the sample of the site, whose value says nothing
+-- the info sample of the site, with the constant value 1
 abbrev pub labels_text : List ℕ → ℕ → ℕ → List ℕ
 labels_text name site start =
     joined (name ∷ codes "{site=\"" ∷ decimal site ∷ codes "\",start=\"" ∷ decimal start ∷ codes "\"} 1\n" ∷ [])
@@ -81,7 +81,7 @@ abbrev pub peer_age_text : List ℕ → List ℕ → Option ℕ → List ℕ
 peer_age_text name peer None = []
 peer_age_text name peer (Some age) = peer_milli_sample name peer age
 
--- the figures of a peer
+-- the metrics of a peer
 abbrev pub figure_text : List ℕ → Figure → PeerFacts → List ℕ
 figure_text name Reached peer = peer_sample name (string_bytes peer.peer) (flag peer.is_reachable)
 figure_text name Age peer = peer_age_text name (string_bytes peer.peer) peer.good_ms
@@ -126,7 +126,7 @@ all_held gate =
     held_from Require 1 (length gate.require.approvals) ++ held_from Reject 1 (length gate.reject.approvals)
     ++ Cycle ∷ Unknown ∷ Dependency ∷ []
 
--- how many open items are held by what
+-- how many open items each cause holds up
 abbrev pub all_held_text : GateRules → List Left → List ℕ
 all_held_text gate out =
     family (codes "reviewgate_held_items") (codes "gauge")
@@ -182,19 +182,19 @@ abbrev pub heard_text : Option ℕ → List ℕ
 heard_text None = []
 heard_text (Some age) = heard_age_text age
 
--- the figures of what it does just now
+-- the metrics of the present activity
 abbrev pub now_text : Facts → List ℕ
 now_text facts =
     work_text facts.workers facts.busy_workers facts.session_faults facts.refused_connections
     ++ journal_figures facts.journal ++ heard_text facts.heard_ms
 
--- the figures of the record, of what open items are held by, of the site, of its peers, and of what it served
+-- the metrics of the record, of what holds up open items, of the site, of its peers, and of what it served
 abbrev pub figures_text : GateRules → State → ℕ → Judged → Facts → List ℕ
 figures_text gate state operations verdicts facts =
     record_text operations state (length verdicts.ready) ++ all_held_text gate verdicts.out
     ++ site_text facts.site facts.start facts.news_ms ++ peers_text facts.peers.items
     ++ served_text facts.sessions facts.publishes facts.requests facts.refused_hosts ++ update_text facts.update_us
 
--- all figures: these, and those of what it does just now
+-- all metrics: these, and those of the present activity
 abbrev pub metrics_of : GateRules → State → ℕ → Judged → Facts → List ℕ
 metrics_of gate state operations verdicts facts = figures_text gate state operations verdicts facts ++ now_text facts

@@ -1,4 +1,4 @@
--- The names under which a list is asked for. They are the project's own.
+-- The values of the query parameters of a list. They are the project's own.
 use Rattle.std.specs.Prelude.{ℕ, List, codes}
 use Rattle.page_routes.specs.declared.route.Reason.{Reason}
 use Rattle.page_routes.specs.declared.route.Reason.TheVariants.{Require, Reject, Cycle, Unknown, Dependency}

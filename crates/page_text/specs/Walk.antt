@@ -1,5 +1,5 @@
--- From an item that waits for a change to that change's current item, and so on. Its parts are those of the answer of
--- `why`.
+-- The walk from an item that is left out towards its cause: each item waits for the change of the next one. Its steps
+-- are those of `why`.
 use Rattle.std.specs.Prelude.{◌≡◌, ℕ, List, [], ◌∷◌, ◌++◌, Some, Contains, slice_get}
 use Rattle.state_core.specs.State.{State}
 use Rattle.state_core.specs.Items.{IsCurrentItem}

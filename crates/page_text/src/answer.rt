@@ -1,4 +1,4 @@
-//! What is answered to a route.
+//! Answers a route.
 
 ghost use Rattle.std.specs.Prelude.{IfOk, MatchOption, length};
 ghost use Rattle.std.specs.List.Sorted.{IsStrictlySortedBy};
@@ -157,7 +157,7 @@ fn items_answer(
     Ok(found(Kind::Json, body))
 }
 
-/// How the site is, as data.
+/// The status of the site, as JSON.
 fn status_answer(
     alloc: Global,
     replica: &Replica,
@@ -180,7 +180,7 @@ fn events_answer(alloc: Global, replica: &Replica, verdicts: &Verdicts) -> Resul
     Ok(found(Kind::Events, body))
 }
 
-/// The site's figures.
+/// The metrics of the site.
 fn metrics_answer(
     alloc: Global,
     gate: &Gate,

@@ -1,4 +1,4 @@
-//! The page of a change, for people.
+//! The HTML page of a change.
 
 ghost use Rattle.std.specs.Prelude.{IfOk, IfSome};
 ghost use Rattle.std.specs.List.Sorted.{IsStrictlySortedBy};

@@ -16,7 +16,7 @@ pub enum Counted {
     Open,
     /// Those that are open and wait for this reason.
     For(Reason),
-    /// Those that are held so.
+    /// Those that are held up by this cause.
     By(Held),
 }
 

@@ -279,7 +279,7 @@ fn node_at(
     }
 }
 
-/// How it is with a change, and with its item, in a word. A change may be merged of which no patch set is known.
+/// The status of a change and its item, in a word. A change without a known patch set may be merged.
 fn word_of(state: &State, verdicts: &Verdicts, number: u32, item: Option<Item>) -> &'static str
     requires { IsStrictlySortedBy item_cmp (items_out verdicts.now.out) }
 {

@@ -1,7 +1,7 @@
-//! What a site knows of itself, beside its record.
+//! Facts about a running site, beside its record.
 
-/// What a site knows of itself when it is asked for a page. Times are given as how long ago they were, so that a page
-/// is determined by these facts and the record.
+/// Facts about a running site at the time of a request. Times are ages, so that a page is a function of these facts and
+/// the record.
 #[derive(Drop)]
 pub struct Facts {
     /// The number of the site.

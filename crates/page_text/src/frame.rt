@@ -1,4 +1,4 @@
-//! What all pages for people have in common.
+//! The common frame of all HTML pages.
 
 ghost use Rattle.std.specs.Prelude.{◌++◌, IfOk, IfSome, codes, flat_map};
 ghost use Rattle.markup_text.specs.Growing.{Adds};

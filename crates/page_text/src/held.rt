@@ -1,4 +1,4 @@
-//! What open items can be held by, as the metrics count it.
+//! The causes that hold up open items, as the metrics count them.
 
 ghost use Rattle.std.specs.Prelude.{◌≡◌, ◌++◌, IfOk, OnOk, string_bytes};
 ghost use Rattle.page_text.specs.Metrics.{all_held, held_from};
@@ -22,8 +22,8 @@ pub enum Held {
     Dependency,
 }
 
-/// All that open items can be held by under a gate: the approvals that it requires and that it rejects, in their order,
-/// and then the other three.
+/// All causes under a gate: the approvals that it requires and that it rejects, in their order, and then the other
+/// three.
 pub fn all_held(alloc: Global, gate: &Gate) -> Result<Vec<Held>, NoMemory>
     ensures { IfOk result (λ all. all.items ≡ all_held gate.now) }
 {
@@ -60,7 +60,7 @@ fn add_approvals(all: &mut Vec<Held>, side: Side, count: usize) -> Result<(), No
     Ok(())
 }
 
-/// Whether a refusal says that an item is held so.
+/// Whether a refusal has this cause.
 pub fn is_held(held: Held, refusal: Refusal) -> bool
     ensures { result ≡ is_held held refusal }
 {

@@ -1,4 +1,4 @@
-//! How a site is, as JSON, and the events that say that something changed.
+//! The status of a site as JSON, and the server-sent events about changes.
 
 ghost use Rattle.std.specs.Prelude.{◌≡◌, ◌∷◌, ◌++◌, IfOk, codes, flat_map, length};
 ghost use Rattle.json.specs.Print.{print};
@@ -18,7 +18,7 @@ use ready_core::Verdicts;
 use replica_core::Replica;
 use std::alloc::Global;
 
-/// The JSON text of how a site is. It costs O(n) for n bytes of it and items that are left out.
+/// The JSON text of a site's status. It costs O(n) for n bytes of it and items that are left out.
 pub fn status_text(
     alloc: Global,
     replica: &Replica,
@@ -33,7 +33,7 @@ pub fn status_text(
     Ok(text)
 }
 
-/// Adds the object of how a site is.
+/// Adds the object of a site's status.
 fn put_status(out: &mut Sheet, replica: &Replica, verdicts: &Verdicts, facts: &Facts)
     ensures { Notes (site_tokens (length replica.now) verdicts.now facts.now) out.old out.new }
 {

@@ -1,4 +1,4 @@
-//! The texts of the page of a running site: what is answered to each route.
+//! The pages of a running site: the HTML, JSON or text that answers each route.
 //!
 //! Its tests are in the crate `page_tests`.
 //!

@@ -1,4 +1,4 @@
-//! The list of the items, as a page for people.
+//! The HTML page of the list of items.
 
 ghost use Rattle.std.specs.Prelude.{IfOk, IfSome};
 ghost use Rattle.std.specs.List.Sorted.{IsStrictlySortedBy};

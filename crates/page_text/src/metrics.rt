@@ -1,4 +1,4 @@
-//! The site's figures, in the text format of Prometheus.
+//! The metrics of a site, in the text format of Prometheus.
 
 ghost use Rattle.std.specs.Prelude.{◌≡◌, IfOk, flat_map, length};
 ghost use Rattle.markup_text.specs.Growing.{Adds};
@@ -25,9 +25,8 @@ use replica_core::Replica;
 use state_core::State;
 use std::alloc::Global;
 
-/// The text of the figures: of the record, of the items that open ones are held by, of the site, of its peers, of what
-/// it served, of its threads, of its journal, and of what its feeds heard. It costs O(n k) for n items and k approvals
-/// of the gate.
+/// The text of the metrics: of the record, of what holds up open items, of the site, of its peers, of what it served,
+/// of its threads, of its journal, and of its feeds. It costs O(n k) for n items and k approvals of the gate.
 pub fn metrics_text(
     alloc: Global,
     gate: &Gate,
@@ -45,8 +44,7 @@ pub fn metrics_text(
     Ok(bytes)
 }
 
-/// Adds the figures of the record, of the items that open ones are held by, of the site, of its peers, and of what it
-/// served.
+/// Adds the metrics of the record, of what holds up open items, of the site, of its peers, and of what it served.
 fn add_figures(
     alloc: Global,
     text: &mut Lines,
@@ -66,7 +64,7 @@ fn add_figures(
     add_update(text, facts.update_us);
 }
 
-/// Adds the figures of the record.
+/// Adds the metrics of the record.
 fn add_record(text: &mut Lines, replica: &Replica, verdicts: &Verdicts)
     ensures { Adds (record_text (length replica.now) (state_of replica.now) (length verdicts.now.ready)) text.old
         text.new }
@@ -109,7 +107,7 @@ fn add_status(text: &mut Lines, state: &State, status: Status)
     add_labelled(text, "reviewgate_changes", "status", status.name(), count);
 }
 
-/// Adds how many open items are held by what.
+/// Adds how many open items each cause holds up.
 fn add_held(alloc: Global, text: &mut Lines, gate: &Gate, out: &[Left])
     ensures { Adds (all_held_text gate.now out.now) text.old text.new }
 {
@@ -134,7 +132,7 @@ fn add_all_held(alloc: Global, text: &mut Lines, out: &[Left], all: &[Held])
     }
 }
 
-/// Adds how many open items are held so.
+/// Adds how many open items this cause holds up.
 fn add_held_by(alloc: Global, text: &mut Lines, out: &[Left], held: Held)
     ensures { Adds (held_text out.now held) text.old text.new }
 {
@@ -174,7 +172,7 @@ fn add_info(text: &mut Lines, site: u16, start: u32)
     add_labels(text, name, site, start);
 }
 
-/// Adds the sample of the site, whose value says nothing.
+/// Adds the info sample of the site, with the constant value 1.
 fn add_labels(text: &mut Lines, name: &str, site: u16, start: u32)
     ensures { Adds (labels_text name.now site start) text.old text.new }
 {

@@ -1,4 +1,4 @@
-//! The figures of the sites that a site pulls from.
+//! The metrics of the peers of a site.
 
 ghost use Rattle.std.specs.Prelude.{◌≡◌, ◌++◌, flat_map};
 ghost use Rattle.markup_text.specs.Growing.{Adds};
@@ -9,7 +9,7 @@ use super::facts::PeerFacts;
 use super::lines::Lines;
 use super::samples::{add_family, add_peer, add_peer_milliseconds};
 
-/// The figures of each peer.
+/// The metrics of each peer.
 #[derive(Clone, Copy)]
 pub enum Figure {
     /// 1 where the last pull reached it, else 0.
@@ -22,7 +22,7 @@ pub enum Figure {
     Failures,
 }
 
-/// Adds the figures of the peers, each by how the command line names it.
+/// Adds the metrics of the peers, each named as on the command line.
 pub fn add_peers(text: &mut Lines, peers: &[PeerFacts])
     ensures { Adds (peers_text peers.now) text.old text.new }
 {

@@ -1,4 +1,4 @@
-//! The figures of what a site does just now: its threads, its journal, and what its feeds hear.
+//! The metrics of the present activity of a site: its threads, its journal, and what its feeds hear.
 
 ghost use Rattle.markup_text.specs.Growing.{Adds};
 ghost use Rattle.page_text.specs.Metrics.{heard_age_text, heard_text, journal_figures, now_text, one_journal_text};
@@ -8,7 +8,7 @@ use super::facts::{Facts, JournalFacts};
 use super::lines::Lines;
 use super::samples::{add_counter, add_family, add_gauge, add_milliseconds};
 
-/// Adds the figures of what a site does just now.
+/// Adds the metrics of the present activity of a site.
 pub fn add_now(text: &mut Lines, facts: &Facts)
     ensures { Adds (now_text facts.now) text.old text.new }
 {
@@ -17,7 +17,7 @@ pub fn add_now(text: &mut Lines, facts: &Facts)
     add_heard(text, facts.heard_ms);
 }
 
-/// Adds how many threads look for sessions, and what went wrong since the start.
+/// Adds how many workers there are and how many are busy, and how much has failed since the start.
 fn add_work(text: &mut Lines, facts: &Facts)
     ensures { Adds (work_text facts.now.workers facts.now.busy_workers facts.now.session_faults
         facts.now.refused_connections) text.old text.new }

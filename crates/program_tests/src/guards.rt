@@ -1,4 +1,4 @@
-//! Peers that hand over what would poison a record: it isn't let in, and the site goes on.
+//! Peers that send operations which would poison a record: they are refused, and the site goes on.
 
 use super::asserts::assert_found;
 use super::programs::{
@@ -387,8 +387,8 @@ where
     ))
 }
 
-// A site to which a peer hands over an operation that bears its number ends under that start and each one before, and
-// goes on under a greater one.
+// A site whose peer sends an operation with the site's number ends under that start and each smaller one, and goes on
+// under a greater one.
 #[test]
 fn a_site_goes_on_above_a_start_that_was_made_up(rt: HostRuntime) {
     for (start, wanted) in [

@@ -1,5 +1,5 @@
-//! Tests of `serve` by its words, over files and sockets of this machine, through the public functions of its crates. A
-//! crate of tests alone, as `record_tests` is.
+//! Tests of `serve` by its arguments, over files and sockets of this machine, through the public functions of its
+//! crates. A crate of tests alone, as `record_tests` is.
 #![tactic(auto)]
 
 #[cfg(test)]

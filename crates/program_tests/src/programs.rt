@@ -1,4 +1,4 @@
-//! `serve` by what words ask for, over files and sockets of this machine.
+//! `serve` run by its arguments, over files and sockets of this machine.
 
 use super::asserts::assert_found;
 use byte_ends::{Drain, Ends, Source};
@@ -37,7 +37,7 @@ const JOURNAL: &[u8] =
 const TORN: &[u8] =
     b"reviewgate 2\n{\"change\":5,\"op\":\"merged\",\"seq\":1,\"site\":1,\"start\":2,\"time\":1}\n{\"change\":5,";
 
-/// What a site is told by its words.
+/// What a site is run with.
 #[derive(Clone, Copy)]
 pub struct Words {
     pub gate: &'static str,

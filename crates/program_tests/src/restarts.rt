@@ -1,5 +1,5 @@
-//! What a site of `serve` does with its words: what it acknowledged is there when it begins again, by its journal or
-//! its snapshot, and its options have their effect.
+//! What a site does by the arguments of `serve`: after a restart it has what it acknowledged, from its journal file or
+//! its snapshot, and each option has its effect.
 
 use super::asserts::assert_found;
 use super::programs::{

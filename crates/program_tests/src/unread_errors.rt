@@ -1,4 +1,4 @@
-//! A site whose error output nobody reads.
+//! A site whose standard error nobody reads.
 
 use super::asserts::assert_found;
 use super::programs::{GATE, UNTIL_INPUT_ENDS, Way, Words, is_removed, is_written};
@@ -46,7 +46,7 @@ impl<R: Files> Read for Spoils<R> {
     }
 }
 
-/// Lines that nobody reads on the error output hold up neither what the input asks for nor the end of the site.
+/// Unread lines on standard error block neither the commands on standard input nor the end of the site.
 #[test]
 fn an_error_output_that_nobody_reads_holds_nothing_up(rt: HostRuntime) {
     let is_given = is_written(&rt, "unread.tmp", GATE.as_bytes());

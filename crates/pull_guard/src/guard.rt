@@ -20,7 +20,7 @@ pub const LAST_START: u32 = 4_294_967_294;
 pub struct Guard {
     /// The number of the site itself.
     pub own: u16,
-    /// The numbers of those that it takes operations of; none stands for all.
+    /// The numbers of the sites whose operations are accepted; an empty list means all sites.
     pub sites: Vec<u16>,
 }
 

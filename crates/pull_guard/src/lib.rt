@@ -1,10 +1,10 @@
-//! What a site lets in of what its peers hand over: operations of the sites that it knows, whose times and starts
-//! aren't far ahead of what it has.
+//! Which operations a site accepts from its peers: those of listed sites whose times and starts aren't far ahead of its
+//! record.
 //!
 //! Its tests are in the crate `site_tests`.
 //!
-//! It is a crate of its own so that the rule is one for every sink, and known to whoever counts starts. Not taken: a
-//! limit by the time of day (times are counters), and a list of trusted operations, which would have to be signed.
+//! It is a crate of its own so that all sinks, and the code that chooses starts, share one rule. Not taken: a limit by
+//! the time of day (times are counters), and a list of trusted operations, which would have to be signed.
 //!
 //! | Bar | Of the first operation that isn't allowed |
 //! |---|---|

@@ -1,4 +1,4 @@
--- What the search for verdicts knows of the items in turn.
+-- What the search for verdicts has computed of the items, step by step.
 use Rattle.std.specs.Prelude.{◌≡◌, ◌<◌, ◌≤◌, ◌↔◌, ℕ, Bool, List, Option, None, Some, map, is_none, is_some, length}
 use Rattle.std.specs.Prelude.{slice_get, slice_index_or, Contains}
 use Rattle.std.specs.List.{AllZip}
@@ -102,7 +102,7 @@ pub record AreJudged (gate : GateRules) (state : State) (items : List Item) (cou
   pub ready_in_order : IsStrictlySortedBy item_cmp safe
   pub out_in_order : IsStrictlySortedBy item_cmp (items_out left_out)
 
--- the same, of whatever gate and state the graph and the causes are of
+-- the verdicts on the items at the first places, for every gate and state of which the graph and the causes are
 abbrev pub AreJudgedBy : ItemGraph → List (Option Refusal) → ℕ → List Item → List Left → Type 0
 AreJudgedBy graph causes count ready out =
     (gate : GateRules) (state : State) → IsGraphOf gate state graph → AreCauses gate state graph.items causes

@@ -19,7 +19,7 @@ pub record RankedVerdicts : Type 0 where
 abbrev pub judged : RankedVerdicts → Judged
 judged ranked = record { ready = map (λ rank. rank.node) ranked.ranks; out = ranked.out }
 
--- what the ready items are ordered by is so in the state
+-- the ranks of the ready items are their ranks in the state
 abbrev pub AreReadyRanks : GateRules → State → List (Rank Item) → Type 0
 AreReadyRanks gate state ranks =
     (rank : Rank Item) → Contains ranks rank → IsRank item_cmp (IsDependency gate state) (IsReady gate state) rank

@@ -41,7 +41,7 @@ pub record IsEligible (gate : GateRules) (state : State) (item : Item) : Type 0 
   pub off : IsOffCycles gate state item
   pub known : (number : ℕ) → ¬ IsUnknownTarget gate state item number
 
--- it isn't
+-- the item isn't eligible
 abbrev pub IsIneligible : GateRules → State → Item → Type 0
 IsIneligible gate state item = ¬ IsEligible gate state item
 
@@ -49,7 +49,7 @@ IsIneligible gate state item = ¬ IsEligible gate state item
 abbrev pub IsReady : GateRules → State → Item → Type 0
 IsReady gate state item = IsInClosedSet (IsDependency gate state) (IsEligible gate state) item
 
--- so many edges are the fewest from the item to one that isn't eligible
+-- the length of a shortest walk from the item to one that isn't eligible
 abbrev pub IsRefusalRank : GateRules → State → Item → ℕ → Type 0
 IsRefusalRank gate state item rank = IsDistance (IsDependency gate state) (IsIneligible gate state) rank item
 

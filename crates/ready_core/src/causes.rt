@@ -1,4 +1,4 @@
-//! Why items aren't eligible.
+//! Why an item isn't eligible.
 
 ghost use Rattle.std.specs.Prelude.{◌≡◌, ◌↔◌, ◌<◌, ℕ, IsTrue, IfOk, MatchBool, MatchOption, Contains, length};
 ghost use Rattle.std.specs.List.Sorted.{IsStrictlyIncreasing};
@@ -121,7 +121,7 @@ fn cause_of(
     Some(Refusal::Unknown(unknown))
 }
 
-/// Why each item isn't eligible, in the order of the places, by the items' own conditions.
+/// For each item, in order, why it isn't eligible, given the items' own conditions.
 pub fn all_causes(
     alloc: Global,
     state: &State,

@@ -40,9 +40,9 @@ pub fn evaluate(alloc: Global, state: &State, gate: &Gate) -> Result<Verdicts, N
     Ok(verdicts)
 }
 
-/// The verdicts on the items of a graph, which may be a part of the state's, by their own conditions: of these items
-/// what `evaluate` says of them. It costs O(n log n) time and O(n) memory for n items with what they wait for, and, for
-/// the order of the ready items, what `Digraph::in_rank_order` costs.
+/// The verdicts on the items of a graph, which may be a part of the state's items, given their own conditions: the same
+/// as those of `evaluate` on these items. It costs O(n log n) time and O(n) memory for n items with what they wait for,
+/// and, for the order of the ready items, what `Digraph::in_rank_order` costs.
 pub fn verdicts_on(
     alloc: Global,
     state: &State,
@@ -58,8 +58,8 @@ pub fn verdicts_on(
     ranked.into_verdicts(alloc)
 }
 
-/// As `verdicts_on`, with what each ready item is ordered by: how many ready items of the whole state it waits for,
-/// over others, and the first of its cycle.
+/// As `verdicts_on`, with the rank by which each ready item is ordered: how many ready items of the whole state it
+/// reaches, itself among them, and the first item of its cycle.
 pub fn ranked_on(
     alloc: Global,
     state: &State,
@@ -95,7 +95,7 @@ pub fn judged(
     Ok(verdicts.with_ranks(ready))
 }
 
-/// Which places have no rank.
+/// For each index, whether it has no rank.
 fn unranked(alloc: Global, ranks: &[Option<usize>]) -> Result<Vec<bool>, NoMemory>
     ensures { IfOk result (λ flags. flags.items ≡ safe_flags ranks.now) }
 {
@@ -177,7 +177,7 @@ fn change_at(items: &[Item], place: usize) -> u32
     items[place].change
 }
 
-/// The first of some places that has a rank.
+/// The first of some indices that has a given rank.
 pub fn nearest(places: &[usize], ranks: &[Option<usize>], wanted: usize) -> Option<usize>
     requires { All (λ place. place < length ranks.now) places.now }
     ensures { MatchOption result ((place : ℕ) → Contains places.now place → ¬ HasDistance ranks.now place wanted)
@@ -191,7 +191,7 @@ pub fn nearest(places: &[usize], ranks: &[Option<usize>], wanted: usize) -> Opti
     None
 }
 
-/// Whether a place has a rank.
+/// Whether an index has a given rank.
 fn has_rank(ranks: &[Option<usize>], place: usize, wanted: usize) -> bool
     requires { place < length ranks.now }
     ensures { IsTrue result ↔ HasDistance ranks.now place wanted }

@@ -51,8 +51,8 @@ pub fn ready_items_are_in_gate_order()
 {}
 
 /// A law: an item that is left out for a dependency has a rank above 0, and the current item of that dependency is left
-/// out, too, with the rank below. So who follows these lines comes to an own condition, a cycle or an unknown change
-/// after as many steps as the rank says, which are fewer than the items that are left out.
+/// out, too, with the rank below. So whoever follows the dependencies reaches an own condition, a cycle or an unknown
+/// change after as many steps as the rank says, which are fewer than the items that are left out.
 pub fn dependencies_lead_to_a_cause()
     ensures leads { (gate : GateRules) → (state : State) → (verdicts : Judged) → AreVerdicts gate state verdicts
         → (left : Left) → Contains verdicts.out left → LeadsOn state verdicts left }

@@ -2,9 +2,9 @@
 //!
 //! Its tests are in the crate `judge_tests`.
 //!
-//! It is a crate of its own so that the rule of a dependent pipeline is one definition, a greatest set, and the search
-//! that meets it. Not taken: removing items until nothing changes (a loop over all for each level; it is the slow
-//! program of the tests), and recursion over dependencies, which doesn't end on cycles.
+//! It is a crate of its own so that the rule of a dependent pipeline is one definition, a greatest set, beside the
+//! search that computes it. Not taken: removing items until nothing changes (a loop over all for each level; it is the
+//! slow program of the tests), and recursion over dependencies, which doesn't end on cycles.
 //!
 //! An item is eligible where it breaks no condition of its own, waits for no unknown change, and is on no cycle, unless
 //! the gate allows cycles. The ready items are the union of all sets of eligible items that hold the current items of

@@ -1,13 +1,12 @@
-//! The files of the system and the running sites of this machine, as the commands name them; and the pull of a record
-//! from a running site.
+//! The files and the running sites of this machine that commands name, and the pull of a record from a running site.
 //!
 //! Its tests are in the crate `site_tests`.
 //!
 //! Those over sockets are in the crate `serve_tests`.
 //!
-//! It is a crate of its own so that `console`, and all commands with it, know no sockets. Not taken: a command of a
-//! session that sends a snapshot (a pull does, and any site answers it), and a pull onto the record that is there,
-//! whose front would hide operations that have a stamp of it and another body.
+//! It is a crate of its own so that `console`, and with it all commands, need no sockets. Not taken: a session command
+//! that sends a snapshot (a pull does the same, and every site answers it), and a pull that starts from the front of a
+//! record that was read before, which would miss operations with a known stamp and another body.
 //!
 //! An example of its use:
 //!

@@ -1,4 +1,4 @@
-//! What findings bring to a record, what has to be asked for, and what has vanished, worked out by hand.
+//! What findings add to a record, which changes have to be queried, and which have vanished, worked out by hand.
 
 use super::asserts::assert_found;
 use deeds::{Deed, draft_of, op_of};
@@ -457,7 +457,7 @@ fn bodies_in(alloc: Global, findings: &[Finding]) -> Option<String> {
     Some(text)
 }
 
-/// The bodies of what was found, in the order in which a record meets them, and how many findings there are.
+/// The bodies of findings, in the order in which a record processes them, and how many findings that order has.
 fn met_of(alloc: Global, found: &[Found]) -> Option<(String, usize)> {
     let met = against_first(alloc, findings_of(alloc, found)?).ok()?;
     Some((bodies_in(alloc, met.as_slice())?, met.len()))

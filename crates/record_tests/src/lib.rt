@@ -1,8 +1,8 @@
-//! Tests of states, replicas, what a record holds already and what a line brings to it, and worlds, through the public
-//! functions of their crates.
+//! Tests of states, replicas, worlds, and the filter of a feed (what a record has already, and what a line adds to it),
+//! through the public functions of their crates.
 //!
-//! A crate of tests alone: the gate proves its tests over the libraries that it has proved already, where tests in a
-//! crate make it prove that crate twice.
+//! A crate of tests alone: CI proves these tests over libraries that it has proved already, while tests inside a crate
+//! would make it prove that crate twice.
 #![tactic(auto)]
 
 #[cfg(test)]

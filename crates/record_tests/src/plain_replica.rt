@@ -1,4 +1,4 @@
-//! The journal as a plain list that is walked: what the lines answer, this answers from the definitions.
+//! A slow replica over a plain list, straight from the definitions, that replicas are compared with.
 
 use lattice_core::NoMemory;
 use replica_core::{Front, Iter, Row};

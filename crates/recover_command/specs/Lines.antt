@@ -1,4 +1,4 @@
--- The line of a journal's fault on the error output, as those of refusals. It is the project's own.
+-- The line of a journal's fault on standard error, in the form of a refusal. It is the project's own.
 use Rattle.std.specs.Prelude.{ℕ, List}
 use Rattle.refusal_line.specs.Line.{line_of}
 use Rattle.refusal_line.specs.declared.part.Part.TheVariants.{Journal}

@@ -1,4 +1,4 @@
--- How a journal is recovered as a command: what is printed, what the error output is written, and the status.
+-- The command `recover`: what is printed, what is written to standard error, and the exit status.
 use Rattle.std.specs.Prelude.{◌≡◌, ◌<◌, ℕ, List, Option, Result, Ok, Err, IfSome, MatchResult}
 use Rattle.std.specs.Io.KnownBytes.{Appends}
 use Rattle.console.specs.Refusals.{refusal_line}
@@ -37,15 +37,15 @@ abbrev pub recovery_fault_line : RecoverFault → List ℕ
 recovery_fault_line (Journal fault) = journal_line fault
 recovery_fault_line (Snapshot fault) = refusal_line (refusal_of fault)
 
--- what the error output is written, and the status: nothing of a whole journal, the line of a torn one, and that of a
--- fault
+-- what is written to standard error, and the exit status: nothing for a whole journal, a line for a torn one, and a
+-- line for a fault
 abbrev pub ReportsRecovery : RecoveryEnd → ErrorOutput → ErrorOutput → ℕ → Type 0
 ReportsRecovery (Ok torn) old new status =
     (torn ≡ 0 → new ≡ old) × (0 < torn → ShowsLine (torn_line torn) old new) × (status ≡ 0)
 ReportsRecovery (Err fault) old new status = ShowsLine (recovery_fault_line fault) old new × (status ≡ 1)
 
 -- how a journal of which this is left to read is recovered, without what is left out: what the output has taken before
--- and after, how many of its calls failed, and the same of the error output
+-- and after, how many of its calls failed, and the same of standard error
 pub record RecoversAs (left_out : LeftOut) (left old new : Option (List ℕ)) (failed now_failed : ℕ)
     (errors now_errors : ErrorOutput)
     (status : ℕ)

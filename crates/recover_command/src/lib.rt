@@ -1,12 +1,12 @@
-//! `recover`: the snapshot of a journal as a command, and the lines of a journal on the error output.
+//! `recover`: prints the snapshot of a journal file, and the lines about a journal file on standard error.
 //!
 //! Its tests are in the crate `site_tests`.
 //!
-//! It is a crate of its own since it is outside the law of the other commands: a journal has no limit, and is read
-//! while it may be torn. Not taken: repairing the journal in place, which a mistake would make final.
+//! It is a crate of its own because it is outside the law of the other commands: a journal file has no size limit, and
+//! its last line may be torn. Not taken: repairing the file in place, which couldn't be undone.
 //!
-//! The journal is read block by block, and neither locked nor changed. A torn line at its end is left out, and its
-//! length is reported. Operations of some sites and starts, or above a time, can be left out, too.
+//! The journal is read block by block, and neither locked nor changed. A torn last line is left out, and its length is
+//! reported. Operations of given sites and starts, or above a given time, can be left out, too.
 //!
 //! An example of its use:
 //!

@@ -1,4 +1,4 @@
-//! The line of a journal's fault on the error output.
+//! The line of a journal's fault on standard error.
 
 ghost use Rattle.std.specs.Prelude.{◌≡◌, IfOk, string_bytes};
 ghost use Rattle.console.specs.Showing.{ShowsLine, error_output};
@@ -10,8 +10,8 @@ use refusal_line::{Part, refusal_line};
 use site_journal::JournalFault;
 use std::alloc::{AllocError, Global};
 
-/// Writes the line of a journal's fault to the error output, or that of want of memory, where memory is refused for it.
-/// What the error output can't take is lost.
+/// Writes the line of a journal's fault to standard error, or the line `NoMemory` if memory is refused for it. If
+/// standard error fails the line is lost.
 pub fn show_journal_fault<E: Drain>(alloc: Global, fault: &JournalFault, errors: &mut E)
     ensures { ShowsLine (journal_line fault.now)
         (error_output (E.taken errors.old) (E.failed errors.old))

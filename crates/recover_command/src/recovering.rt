@@ -38,7 +38,8 @@ pub fn recover_to<S: Source + Drop, O: Drain, E: Drain>(
     report(alloc, &ended, errors)
 }
 
-/// Writes to the error output how a recovery ended, and answers the status. What the error output can't take is lost.
+/// Writes to standard error how a recovery ended, and returns the exit status. If standard error fails the line is
+/// lost.
 pub fn report<E: Drain>(alloc: Global, ended: &Result<usize, RecoverFault>, errors: &mut E) -> u8
     ensures { ReportsRecovery ended.now
         (error_output (E.taken errors.old) (E.failed errors.old))
@@ -56,7 +57,7 @@ pub fn report<E: Drain>(alloc: Global, ended: &Result<usize, RecoverFault>, erro
     }
 }
 
-/// Writes to the error output why a journal isn't recovered.
+/// Writes to standard error why a journal isn't recovered.
 fn show_fault<E: Drain>(alloc: Global, fault: &RecoverFault, errors: &mut E)
     ensures { ShowsLine (recovery_fault_line fault.now)
         (error_output (E.taken errors.old) (E.failed errors.old))

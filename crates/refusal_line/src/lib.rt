@@ -1,9 +1,9 @@
-//! The line that the error output is written where a part of the program refuses something.
+//! The line that is written to standard error when a part of the program refuses something.
 //!
 //! Its tests are in the crate `command_tests`.
 //!
-//! It is a crate of its own so that one function makes such lines, whoever refuses. Not taken: each fault's `Display`
-//! (a fault doesn't know which part reports it) and the crate `log`, whose records have no number.
+//! It is a crate of its own so that one function makes all of these lines. Not taken: each fault's `Display` (a fault
+//! doesn't know which part reports it) and the crate `log`, whose records have no number.
 //!
 //! An example of its use:
 //!

@@ -31,7 +31,7 @@ fn write_part(line: &mut String, name: &str, number: u8) -> Result<(), AllocErro
     write!(line, "{name} {number} ")
 }
 
-/// The line of want of memory, for which no memory is needed.
+/// The line of refused memory, which is a constant.
 pub fn memory_line() -> &'static str
     ensures { result.now ≡ line_of Memory 1 (codes "NoMemory") }
 {

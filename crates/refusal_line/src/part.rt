@@ -15,7 +15,7 @@ pub enum Part {
     Journal,
     /// Whether another file is read.
     File,
-    /// What is asked for of a record.
+    /// The item or the change that a command asks for.
     Item,
     /// What a gate file's check finds.
     Check,

@@ -1,4 +1,4 @@
-//! For tests: memory that refuses one request, and calls whose requests are refused in turn.
+//! For tests: an allocator that refuses one allocation, and calls in which each allocation fails in turn.
 //!
 //! An example of its use:
 //!

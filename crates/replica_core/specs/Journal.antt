@@ -29,11 +29,11 @@ abbrev pub all_arrived : List Operation → List Operation → List Operation
 all_arrived journal [] = journal
 all_arrived journal (op ∷ ops) = all_arrived (arrived journal op) ops
 
--- no operation is twice
+-- no operation is in the list twice
 abbrev pub AreApart : List Operation → Type 0
 AreApart = IsDistinct same_operation
 
--- how the coming of an operation is answered
+-- what `take` answers: `Known` if the journal had the operation, else `New`
 abbrev pub taken_of : Bool → Taken
 taken_of true = Known
 taken_of false = New

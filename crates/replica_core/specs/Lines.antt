@@ -13,7 +13,7 @@ use Rattle.replica_core.specs.InOrder.{IsInOrder}
 use Rattle.replica_core.specs.Missing.{row_by_row}
 use Rattle.replica_core.specs.RowLine.{RowLine}
 
--- what is there where nothing came
+-- an arbitrary operation, for positions without an arrival
 abbrev nothing : Operation
 nothing = record { stamp = record { time = 0; site = 0; start = 0; seq = 0 }; deed = merged 0 }
 

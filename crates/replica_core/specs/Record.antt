@@ -1,4 +1,4 @@
--- What a replica keeps, whatever happens to it.
+-- The invariants of a replica and of a gathering.
 use Rattle.std.specs.Prelude.{◌≡◌, ◌≤◌, ℕ, List, length, take}
 use Rattle.review_ops.specs.Operation.{Operation}
 use Rattle.replica_core.specs.Clock.{greatest, times}
@@ -7,18 +7,18 @@ use Rattle.replica_core.specs.Lines.{AreLines}
 use Rattle.replica_core.specs.RowLine.{RowLine}
 use Rattle.state_core.specs.State.{State, state_of}
 
--- in the journal no operation is twice; the lines are those of the journal, and the latest time is its greatest
+-- no operation is twice in the journal; the lines are those of the journal, and the latest time is its greatest time
 pub record IsKept (journal : List Operation) (kept : List RowLine) (time : ℕ) : Type 0 where
   pub apart : AreApart journal
   pub lines : AreLines journal kept
   pub latest : time ≡ greatest (times journal)
 
--- so is the journal of a replica, and the state that is kept is that of the journal
+-- the invariant of a replica: also, its state is that of its journal
 pub record IsRecord (journal : List Operation) (kept : List RowLine) (time : ℕ) (state : State) : Type 0 where
   pub joined : state ≡ state_of journal
   pub is_kept : IsKept journal kept time
 
--- and of a gathering, whose state is that of the first arrivals alone
+-- the invariant of a gathering: its state is that of a prefix of its arrivals
 pub record IsGathered (journal : List Operation) (kept : List RowLine) (time : ℕ) (state : State) (first : ℕ)
     : Type 0 where
   pub joined : state ≡ state_of (take first journal)

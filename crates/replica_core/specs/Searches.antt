@@ -1,4 +1,4 @@
--- What is looked for in a line, by tests that the first of its operations pass and the later ones don't.
+-- Predicates for the binary searches in a line: true for its first operations, and false for the later ones.
 use Rattle.std.specs.Prelude.{◌==◌, ◌&&◌, ◌||◌, ℕ, Bool, not, nat_lt, List, slice_get, filter, length}
 use Rattle.std.specs.Ordering.{is_lt}
 use Rattle.chunk_list.specs.Chunks.{is_some_passing}

@@ -1,4 +1,4 @@
--- The starts of a site. One that it begins under is above each that it ever began under, so that no stamp comes twice.
+-- The starts of a site. Each time it starts under one greater than all before, so no stamp is used twice.
 use Rattle.std.specs.Prelude.{◌≡◌, ◌≤◌, ◌<◌, ℕ, List, All}
 use Rattle.review_ops.specs.Operation.{Operation}
 

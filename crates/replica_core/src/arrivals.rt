@@ -1,4 +1,4 @@
-//! What arrived at a record, in its order.
+//! The operations of a record, in the order of their arrival.
 
 ghost use Rattle.std.specs.Prelude.{◌≡◌, ◌+◌, ◌-◌, ◌<◌, ◌^◌, ◌∷◌, ◌++◌, [], IfOk, OnOk, OnErr, Some, drop, length};
 ghost use Rattle.std.specs.Prelude.{slice_get};
@@ -13,8 +13,8 @@ use std::marker::Model;
 use std::mem;
 use std::sync::Arc;
 
-/// Operations in the order in which they arrived: first those that copies share, then its own. Contracts see all of
-/// them, and for how many more there is room.
+/// Operations in the order of arrival: first those that copies share, then those of this replica alone. Contracts see
+/// all of them, and the spare capacity.
 #[derive(Drop)]
 pub(super) struct Arrivals<A: Allocator + Copy = Global> {
     shared: Option<Arc<Vec<Op<A>, A>, A>>,
@@ -37,7 +37,7 @@ impl<A: Allocator + Copy> Model for Arrivals<A> {
 }
 
 impl<A: Allocator + Copy> Arrivals<A> {
-    /// None yet. It takes no memory.
+    /// No operations. It takes no memory.
     pub(super) fn new(alloc: A) -> Arrivals<A>
         ensures { result.items ≡ [] }
     {
@@ -70,7 +70,7 @@ impl<A: Allocator + Copy> Arrivals<A> {
         item_of(items_in(&self.shared), self.own.as_slice(), place)
     }
 
-    /// The operation at a place that is one of them.
+    /// The operation at an index below `len`.
     pub(super) fn at(&self, place: usize) -> &Op<A>
         requires { place < length self.now.items }
         ensures { slice_get self.now.items place ≡ Some result.now }

@@ -1,4 +1,4 @@
-//! How an operation comes into a journal, and what follows it there.
+//! Adds operations to a journal, and to the state that is kept up to date with it.
 
 ghost use Rattle.std.specs.Prelude.{◌≡◌, IfOk, OnOk, OnErr, if◌then◌else◌};
 ghost use Rattle.std.specs.List.{Contains};
@@ -20,7 +20,7 @@ use review_ops::Op;
 use state_core::State;
 use std::alloc::Allocator;
 
-/// What follows the arrivals of a journal.
+/// What is kept up to date with the arrivals of a journal.
 pub(super) trait Follows<A: Allocator + Copy> {
     ghost after: { Self → Operation → Self };
 
@@ -39,7 +39,7 @@ impl<A: Allocator + Copy> Follows<A> for State<A> {
     }
 }
 
-/// Nothing follows: what the arrivals join to is found later.
+/// Nothing is kept up to date: the state is joined later.
 #[derive(Drop)]
 pub(super) struct Later;
 

@@ -1,4 +1,4 @@
-//! A journal that is gathered before its state is joined.
+//! A journal to which many operations are added before its state is joined.
 
 ghost use Rattle.std.specs.Prelude.{◌≡◌, ◌++◌, [], List, IfOk, OnOk, OnErr, length, map};
 ghost use Rattle.std.specs.List.Sorted.{IsPermutation};
@@ -20,8 +20,8 @@ use std::alloc::{Allocator, Global};
 use std::marker::Model;
 use std::mem;
 
-/// A replica to which many operations come before its state is asked for: each is filed as it comes, and `joined` joins
-/// the effects of all of them at the end, change by change. Contracts see the arrivals, as those of a replica.
+/// A replica to which many operations are added before its state is needed: `take` adds each to the journal only, and
+/// `joined` joins all effects at the end, change by change. Contracts see the arrivals, as those of a replica.
 #[derive(Drop)]
 pub struct Gathering<A: Allocator + Copy = Global> {
     arrivals: Arrivals<A>,
@@ -45,14 +45,14 @@ impl<A: Allocator + Copy> Model for Gathering<A> {
 }
 
 impl<A: Allocator + Copy> Gathering<A> {
-    /// Of the empty journal. It takes no memory.
+    /// The gathering of the empty journal. It takes no memory.
     pub fn new(alloc: A) -> Gathering<A>
         ensures { result ≡ [] }
     {
         Gathering::onto(Replica::new(alloc))
     }
 
-    /// Of a replica, with all that it has. It takes no memory.
+    /// The gathering of a replica's journal, with its state as the joined part. It takes no memory.
     pub fn onto(replica: Replica<A>) -> Gathering<A>
         ensures { result ≡ replica }
     {
@@ -74,8 +74,8 @@ impl<A: Allocator + Copy> Gathering<A> {
         }
     }
 
-    /// Adds an operation to the journal, as a replica's `take` does, and leaves its effect for `joined`. Where memory
-    /// is refused nothing changes. In O(log n) for n operations, whatever the order of arrival.
+    /// Adds an operation to the journal, as a replica's `take` does, and leaves its effect for `joined`. If memory is
+    /// refused nothing changes. It costs O(log n) for n operations, in whatever order they come.
     pub fn take(&mut self, op: Op<A>) -> Result<Taken, NoMemory>
         ensures ok { IfOk result (λ taken. (self.new ≡ arrived self.old op) × (taken ≡ taken_of (has self.old op))) }
         ensures err { OnErr result (self.new ≡ self.old) }
@@ -110,9 +110,9 @@ impl<A: Allocator + Copy> Gathering<A> {
         self.alloc
     }
 
-    /// The replica of all that came. Where memory is refused all of it is dropped. It sorts references to what came
-    /// since `onto`, which takes O(n) memory and costs O(n log n) for n operations, beside what the state's `take`
-    /// costs for each.
+    /// The replica of the gathered journal. If memory is refused everything is dropped. It sorts references to the
+    /// operations that came since `onto`, which takes O(n) memory and costs O(n log n) for n operations, and what the
+    /// state's `take` costs for each.
     pub fn joined(self) -> Result<Replica<A>, NoMemory>
         ensures { IfOk result (λ replica. replica ≡ self) }
     {
@@ -139,9 +139,9 @@ impl<A: Allocator + Copy> Gathering<A> {
         })
     }
 
-    /// The state of all that came, for whoever needs no journal: the texts of operations become those of the state, and
-    /// the journal's memory is given back. Where memory is refused all of it is dropped. It costs what `joined` costs
-    /// but for the copies of texts.
+    /// The state of the gathered journal, for callers that don't need the journal: the texts of operations are moved
+    /// into the state, and the journal's memory is freed. If memory is refused everything is dropped. It costs what
+    /// `joined` costs, without the copies of texts.
     pub fn into_state(self) -> Result<State<A>, NoMemory>
         ensures { IfOk result (λ state. state ≡ state_of self) }
     {
@@ -178,7 +178,7 @@ fn join_later<A: Allocator + Copy>(
     Ok(())
 }
 
-/// References to the operations in the order of their changes, with these, in a vector that has room for so many.
+/// References to the operations, sorted by change, in a vector of this capacity.
 fn by_change<'a, A: Allocator + Copy>(
     alloc: A,
     ops: Iter<'a, A>,
@@ -226,7 +226,7 @@ fn each_by_change<A: Allocator + Copy>(
     Ok(sorted)
 }
 
-/// An operation out of a journal that is given up. In its place it leaves one that has no texts.
+/// Moves an operation out of a journal that is about to be dropped, and leaves one without texts in its place.
 fn taken_out<A: Allocator + Copy>(op: &mut Op<A>) -> Op<A>
     ensures { result ≡ op.old }
 {

@@ -10,12 +10,12 @@ use std::alloc::Allocator;
 use std::marker::Model;
 use std::{cmp, mem};
 
-/// How many operations come before the first of them is joined.
+/// How many operations are collected before their effects are joined.
 const GROUP: usize = 16;
 
-/// A state into which the effects of operations are joined in groups. The operations of a record lie far apart once
-/// they are put in the order of their changes, and the processor waits for each: it fetches those of a group side by
-/// side. Contracts see the state with the effects of all that came.
+/// A state into which the effects of operations are joined in groups. Sorted by change, the operations of a record are
+/// scattered in memory, and each access is a cache miss: in groups, the processor overlaps the misses. Contracts see
+/// the state with the effects of all that came.
 #[derive(Drop)]
 pub(super) struct Joining<A: Allocator + Copy> {
     state: State<A>,
@@ -35,7 +35,7 @@ impl<A: Allocator + Copy> Model for Joining<A> {
 }
 
 impl<A: Allocator + Copy> Joining<A> {
-    /// Of a state, with room for so many operations or for a group of them; no room needs no memory.
+    /// Begins with a state, and allocates room for `room` operations, at most for a group; no memory if `room` is 0.
     pub(super) fn new(alloc: A, state: State<A>, room: usize) -> Result<Joining<A>, NoMemory>
         ensures { IfOk result (λ joining. joining ≡ state) }
     {

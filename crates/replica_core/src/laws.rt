@@ -1,4 +1,4 @@
-//! What follows for any journals, as functions that do nothing: their contracts are the laws.
+//! Laws of journals, as functions without effect: the contract of each function is a law.
 
 ghost use Rattle.std.specs.Prelude.{◌≡◌, ◌||◌, ℕ, List};
 ghost use Rattle.review_ops.specs.Operation.{Operation};
@@ -23,7 +23,7 @@ pub fn equal_journals_agree()
         → ops ≡ others }
 {}
 
-/// A law: operations that come to a journal, in any order and with any repeated, join it as a set.
+/// A law: operations that come to a journal, in any order and with repeats, are added to it as a set.
 pub fn operations_arrive_as_a_set()
     ensures { (journal ops : List Operation) → (op : Operation)
         → has (all_arrived journal ops) op ≡ (has journal op || has ops op) }

@@ -2,9 +2,9 @@
 //!
 //! Its tests are in the crate `record_tests`.
 //!
-//! It is a crate of its own so that what a site holds is one value, with one law: it is the list of what arrived.
-//! Not taken: shipping states in place of operations (a state of 100,000 changes for each vote), and a version vector
-//! without starts, with which a site that lost its disk would repeat stamps.
+//! It is a crate of its own so that the record of a site is one value with one law: it is the list of the operations
+//! that arrived. Not taken: shipping states in place of operations (a state of 100,000 changes for each vote), and a
+//! version vector without starts, with which a site that lost its disk would repeat stamps.
 //!
 //! An example of its use:
 //!

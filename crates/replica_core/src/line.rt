@@ -1,4 +1,4 @@
-//! The line of a row: where its operations are among the arrivals.
+//! The line of a row: an index of the row's operations among the arrivals.
 
 ghost use Rattle.std.specs.Prelude.{◌≡◌, ◌≤◌, ◌<◌, ◌+◌, ◌-◌, ◌^◌, true, ℕ, [], length, slice_get, IfOk};
 ghost use Rattle.std.specs.List.{All};
@@ -19,8 +19,8 @@ use review_ops::{Op, Stamp};
 use std::alloc::{Allocator, Global};
 use std::marker::Model;
 
-/// What is kept of a row: the places of its operations among the arrivals, in the order of their sequence numbers,
-/// times and bodies, and the sequence number up to which there is no gap.
+/// The index of a row: the positions of its operations among the arrivals, ordered by sequence number, time and body,
+/// and its reach, the sequence number up to which there is no gap.
 #[derive(Drop)]
 pub(super) struct Line<A: Allocator + Copy = Global> {
     pub(super) row: Row,
@@ -62,7 +62,7 @@ impl<A: Allocator + Copy> Line<A> {
         self.reach
     }
 
-    /// An equal line.
+    /// A copy.
     pub(super) fn copy(&self, alloc: A) -> Result<Line<A>, NoMemory>
         ensures { IfOk result (λ copied. copied ≡ self.now) }
     {
@@ -175,7 +175,7 @@ impl<A: Allocator + Copy> Line<A> {
     }
 }
 
-/// An equal list of places.
+/// Copies a list of positions.
 fn copy_places<A: Allocator + Copy>(
     alloc: A,
     places: &ChunkList<usize, A>,
@@ -189,8 +189,8 @@ fn copy_places<A: Allocator + Copy>(
     Ok(copied)
 }
 
-/// The number up to which a row has no gap, where it has none up to the line's reach. It costs O(log n) for each number
-/// that it climbs, for n operations of the row.
+/// The sequence number up to which a row has no gap, found by counting up from the line's reach. It costs O(log n) for
+/// each number counted, for n operations of the row.
 pub(super) fn climbed<A: Allocator + Copy>(arrivals: &Arrivals<A>, line: &Line<A>) -> u64
     requires filed { IsFiled arrivals.now.items line.now }
     requires gapless { (seq : ℕ) → 1 ≤ seq → seq ≤ line.now.reach

@@ -64,7 +64,7 @@ pub(super) fn open_line<A: Allocator + Copy>(
     }
 }
 
-/// Puts a line in place of that of its row, which it answers.
+/// Replaces the line of its row, and returns the old one.
 pub(super) fn exchange<A: Allocator + Copy>(
     lines: &mut ChunkList<Line<A>, A>,
     line: Line<A>,

@@ -26,7 +26,7 @@ pub struct Missing<A: Allocator + Copy = Global> {
 
 impl<A: Allocator + Copy> Replica<A> {
     /// Copies of the operations that lie past a front, by site, start, sequence number, time and body: the first
-    /// `limit` of them. It costs O(m) memory for m bytes of what it answers, and O(m + r log n) time for r rows of n
+    /// `limit` of them. It takes O(m) memory for m bytes of copies, and costs O(m + r log n) time for r rows with n
     /// operations in all.
     pub fn missing(&self, front: &Front<A>, limit: usize) -> Result<Missing<A>, NoMemory>
         ensures { IfOk result (λ missing. (all : List Operation) × IsMissing self.now front.now all
@@ -43,7 +43,7 @@ impl<A: Allocator + Copy> Replica<A> {
     }
 }
 
-/// Adds copies of a row's operations past a sequence number, up to the limit, and says whether others are left.
+/// Adds copies of a row's operations past a sequence number, up to the limit. Returns whether others are left.
 fn copy_past<A: Allocator + Copy>(
     copies: &mut Vec<Op<A>, A>,
     arrivals: &Arrivals<A>,

@@ -1,4 +1,4 @@
-//! What is looked for in a line, by tests that the first of its operations pass and the later ones don't.
+//! Predicates for the binary searches in a line: true for its first operations, and false for the later ones.
 
 ghost use Rattle.std.specs.Prelude.{◌≡◌};
 ghost use Rattle.replica_core.specs.Missing.{row_by_row};
@@ -74,7 +74,7 @@ fn is_before(other: Stamp, stamp: Stamp) -> bool
     other.seq() < stamp.seq()
 }
 
-/// By site, start, sequence number, time and body.
+/// Compares by site, start, sequence number, time and body.
 fn compare<A: Allocator + Copy>(a: &Op<A>, b: &Op<A>) -> Ordering
     ensures { result ≡ row_by_row a.now b.now }
 {

@@ -27,8 +27,8 @@ use std::alloc::{Allocator, Global};
 use std::marker::Model;
 
 /// The journal of a site, and the state that it joins to. Contracts see the arrivals: each operation of the journal
-/// once, in the order in which it first came. Beside the arrivals a line for each row says where the row's operations
-/// are among them, so that only `absorb` and `copy` walk the whole.
+/// once, in the order in which it first came. Beside the arrivals it keeps for each row (a site and a start) an index,
+/// the row's line, so that only `absorb` and `copy` visit all operations.
 #[derive(Drop)]
 pub struct Replica<A: Allocator + Copy = Global> {
     pub(super) arrivals: Arrivals<A>,
@@ -64,10 +64,10 @@ impl<A: Allocator + Copy> Replica<A> {
         }
     }
 
-    /// Adds an operation to the journal and joins it into the state of its change, in place. Where memory is refused
-    /// nothing changes. In O(log n) for n operations, whatever the order of arrival, beside what the state's `take`
-    /// costs: a place that comes last in its row is pushed, any other moves at most the 512 places of its chunk, and
-    /// once in 256 times the list of its row's chunks.
+    /// Adds an operation to the journal and joins it into the state of its change, in place. If memory is refused
+    /// nothing changes. It costs O(log n) for n operations, in whatever order they come, and what the state's `take`
+    /// costs: an index that is the last of its row is pushed; any other moves at most the 512 indices of its chunk, and
+    /// once in 256 times the list of the row's chunks.
     pub fn take(&mut self, op: Op<A>) -> Result<Taken, NoMemory>
         ensures ok { IfOk result (λ taken. (self.new ≡ arrived self.old op) × (taken ≡ taken_of (has self.old op))) }
         ensures err { OnErr result (self.new ≡ self.old) }
@@ -82,10 +82,9 @@ impl<A: Allocator + Copy> Replica<A> {
         )
     }
 
-    /// Takes in every operation of another replica, in the order of operations. Where memory is refused the first
-    /// `taken` of them are in, not all, and nothing else. It sorts the n arrivals of the other, in place where they
-    /// aren't shared, which then takes no memory and costs O(n log n), or O(n) where they came in order, and takes one
-    /// after the other.
+    /// Takes every operation of another replica, in the order of operations. If memory is refused, exactly the first
+    /// `taken` of them were taken, not all. It sorts the n arrivals of the other replica (in place, without memory, if
+    /// they aren't shared), in O(n log n), or O(n) if they came in order, and then takes one after the other.
     pub fn absorb(&mut self, other: Replica<A>) -> Result<(), Partly>
         ensures { (whole : List Operation) × IsInOrderOf other whole × MatchResult result
             (λ _. self.new ≡ all_arrived self.old whole)
@@ -104,7 +103,7 @@ impl<A: Allocator + Copy> Replica<A> {
         }
     }
 
-    /// Takes in operations, none of them twice, in the order of operations, as `absorb` does.
+    /// Takes distinct operations, in the order of operations, as `absorb` does.
     fn take_in_order(&mut self, mut ops: Vec<Op<A>, A>) -> Result<(), Partly>
         requires { AreApart ops.items }
         ensures { (whole : List Operation) × IsInOrderOf ops.items whole × MatchResult result
@@ -155,7 +154,7 @@ impl<A: Allocator + Copy> Replica<A> {
         self.state.same(&other.state)
     }
 
-    /// Lets copies share what the journal has now, unless something of it is shared already. Where memory is refused
+    /// Makes the present operations shared by later copies, unless some are shared already. If memory is refused
     /// nothing is shared. It costs O(1).
     pub fn share(&mut self) -> Result<(), NoMemory>
         ensures { self.new ≡ self.old }
@@ -163,9 +162,9 @@ impl<A: Allocator + Copy> Replica<A> {
         self.arrivals.share(self.alloc)
     }
 
-    /// An equal replica: the same arrivals in the same order. It shares the states of changes and the operations that
-    /// `share` made shared, and copies the other operations. It costs O(n) for n operations and changes and the bytes
-    /// of the operations that it copies.
+    /// A copy: the same arrivals in the same order. It shares the states of changes and the operations that `share`
+    /// made shared, and copies the other operations. It costs O(n + b) for n operations and changes and b bytes of
+    /// copied operations.
     pub fn copy(&self) -> Result<Replica<A>, NoMemory>
         ensures { IfOk result (λ copied. copied ≡ self.now) }
     {
@@ -188,14 +187,14 @@ impl<A: Allocator + Copy> Replica<A> {
         self.arrivals.len()
     }
 
-    /// How many operations arrived, each counted once.
+    /// How many operations the journal has, as `len`.
     pub fn arrivals(&self) -> usize
         ensures { result ≡ length self.now }
     {
         self.len()
     }
 
-    /// The operation that came at a place, from 0 on, in the order in which they first came.
+    /// The operation at an index, from 0, in the order of arrival.
     pub fn arrival(&self, place: usize) -> &Op<A>
         requires { place < length self.now }
         ensures operation { slice_get self.now place ≡ Some result.now }
@@ -212,7 +211,7 @@ impl<A: Allocator + Copy> Replica<A> {
         self.arrivals.iter()
     }
 
-    /// The operations that came after so many of them, in the order in which they first came.
+    /// The operations after the first `count`, in the order of arrival.
     pub fn since(&self, count: usize) -> Iter<'_, A>
         ensures { result ≡ drop count self.now }
     {
@@ -231,14 +230,14 @@ impl<A: Allocator + Copy> Replica<A> {
         &self.state
     }
 
-    /// The state of a change. In O(log n) for n changes.
+    /// The state of a change, if it has an operation. It costs O(log n) for n changes.
     pub fn change(&self, number: u32) -> Option<&ChangeState<A>>
         ensures { option_copied result ≡ get (state_of self.now) number }
     {
         self.state.change(number)
     }
 
-    /// The state of each change that an operation is on, in number order.
+    /// The state of each change that has an operation, by change number.
     pub fn changes(&self) -> &JoinMap<u32, SharedChange<A>, A>
         ensures { state_shown result.now ≡ state_of self.now }
     {
@@ -246,7 +245,7 @@ impl<A: Allocator + Copy> Replica<A> {
     }
 }
 
-/// Copies of lines, in their order.
+/// Copies the lines, in their order.
 fn copy_lines<A: Allocator + Copy>(
     alloc: A,
     lines: &ChunkList<Line<A>, A>,

@@ -1,10 +1,10 @@
-//! The starts that a site ran under.
+//! The starts under which a site ran.
 
 ghost use Rattle.replica_core.specs.Starts.{IsLatest};
 
 use super::replica::Replica;
 
-/// The latest start of a site in a record, in whatever order its operations came; 0 where it has none. Costs O(n) for n
+/// The greatest start of a site in a record; 0 if the record has no operation of the site. It costs O(n) for n
 /// operations.
 pub fn latest_start(replica: &Replica, site: u16) -> u32
     ensures { IsLatest site result replica.now }

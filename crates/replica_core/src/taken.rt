@@ -1,17 +1,17 @@
-//! How the taking of operations and stamps is answered.
+//! What calls that take operations, or ask for a stamp, return.
 
 ghost use Rattle.std.specs.Prelude.{◌≡◌, codes};
 
 use thiserror::Error;
 
-/// Whether an operation was new to a replica.
+/// Whether an operation was new to a replica, or known already.
 #[derive(Clone, Copy, Debug, PartialEq, Eq)]
 pub enum Taken {
     New,
     Known,
 }
 
-/// No stamp is left: a time or a sequence number is at its greatest.
+/// No stamp is left: the greatest time or sequence number is in use.
 #[derive(Clone, Copy, Debug, PartialEq, Eq, Error)]
 #[error("no stamp is left")]
 pub struct ClockSpent;
@@ -32,11 +32,11 @@ impl ClockSpent {
     }
 }
 
-/// Memory was refused after so many operations of an absorbed journal, in the order of operations.
+/// Memory was refused after the first `taken` operations of an absorbed journal, in the order of operations.
 #[derive(Clone, Copy, Debug, PartialEq, Eq, Error)]
 #[error("no memory after {taken} operations")]
 pub struct Partly {
-    /// How many of them are in.
+    /// How many operations were taken.
     pub taken: usize,
 }
 

@@ -2,13 +2,13 @@
 //!
 //! Its tests are in the crate `text_tests`.
 //!
-//! It is a crate of its own so that the law of what its reader holds is proved apart from sites. Not taken: a
-//! difference of two texts, line by line, which would be long wherever the gate order changes, and of which a reader
-//! couldn't say what holds of an item.
+//! It is a crate of its own so that the law on its readers (whoever applies each group has the present list) is proved
+//! without sites. Not taken: a difference of two texts, line by line, which would be long wherever the gate order
+//! changes, and of which a reader couldn't say what holds of an item.
 //!
-//! Listed are the items that are ready, and each other one with its refusal, but those that are over: whose change has
-//! another status than the gate asks for, or which aren't its current patch set. A group of lines says what differs
-//! from what was listed before; groups that are followed one after the other give what is listed last.
+//! The ready items are listed, and each other item with its refusal, except items that are over: those whose change
+//! has another status than the gate asks for, or that aren't its current patch set. A group of lines is the
+//! difference from the previous list; applying the groups in order gives the present list.
 //!
 //! An example of its use:
 //!

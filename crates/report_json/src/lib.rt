@@ -2,8 +2,8 @@
 //!
 //! Its tests are in the crate `command_tests`.
 //!
-//! It is a crate of its own so that `report_text`, which a running site prints by, stays free of JSON. Not taken: a
-//! report in JSON that is written in pages, since it is printed once, at the end of a command.
+//! It is a crate of its own so that `report_text`, which a running site uses, needs no JSON. Not taken: writing the
+//! JSON in pages, since a command prints it once, at its end.
 //!
 //! An example of its use:
 //!

@@ -2,8 +2,8 @@
 //!
 //! Its tests are in the crate `text_tests`.
 //!
-//! It is a crate of its own so that a report is pinned byte by byte. Not taken: `std`'s `format!` for each line, which
-//! takes memory for each; JSON as the report, which a shell can't read line by line.
+//! It is a crate of its own so that its contracts define each report byte by byte. Not taken: `std`'s `format!`, which
+//! allocates for each line; a report in JSON, which a shell can't read line by line.
 //!
 //! An example of its use:
 //!

@@ -7,7 +7,7 @@ use Rattle.review_ops.specs.declared.fault.BodyFault.TheVariants.{BadParent}
 use Rattle.review_ops.specs.Deed.{Deed, change_of, set_of, message_of, parent_of, label_of, voter_of}
 use Rattle.review_ops.specs.Good.{IsLabel, IsVoter, IsFaultless}
 
--- the fault's number in reports; 6 stays free for want of memory, which no check of a draft meets
+-- the fault's number in reports; 6 is reserved for `NoMemory`, which no check of a draft returns
 abbrev pub number_of : BodyFault → ℕ
 number_of BadChange = 1
 number_of BadSet = 2

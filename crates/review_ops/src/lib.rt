@@ -2,13 +2,13 @@
 //!
 //! Its tests are in the crate `change_tests`.
 //!
-//! It is a crate of its own so that what an operation is doesn't depend on where it is kept or how it is written.
-//! Not taken: wall-clock stamps (a site whose clock is wrong would win every register) and one counter for all sites
-//! (which needs agreement).
+//! It is a crate of its own so that the meaning of an operation is independent of its storage and its text. Not taken:
+//! wall-clock stamps (a site whose clock is wrong would win every register) and one counter for all sites (which needs
+//! agreement).
 //!
-//! An operation is a stamp and a body. The body is a deed of review: a patch set is uploaded, a vote is cast or
-//! withdrawn, a change is abandoned, restored or merged. Operations are ordered by stamp, then by body, and two
-//! operations that compare alike are equal.
+//! An operation is a stamp and a body. The body is one step of a review: a patch set is uploaded, a vote is cast or
+//! withdrawn, or a change is abandoned, restored or merged. Operations are ordered by stamp, then by body, and two
+//! operations that compare equal are the same operation.
 //!
 //! An example of its use:
 //!

@@ -1,10 +1,10 @@
-//! Scripts played over a world of sites: the steps of a script are played one after the other, and what each prints is
-//! defined here.
+//! Plays scripts over a world of sites: runs the steps of a script one after the other, and defines what each one
+//! prints.
 //!
 //! Its tests are in the crate `text_tests`.
 //!
-//! It is a crate of its own so that the theorem can be said of printed lines. Not taken: playing in the machine alone,
-//! without texts, which nobody could compare with a running site.
+//! It is a crate of its own so that the theorem can be stated of printed lines. Not taken: a simulation without texts,
+//! which couldn't be compared with a running site.
 //!
 //! | Printed | Of what |
 //! |---|---|

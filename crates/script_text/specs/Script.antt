@@ -156,7 +156,7 @@ abbrev pub SpeaksNoSites : List (ℕ × List ℕ) → Type 0
 SpeaksNoSites [] = Unit {0}
 SpeaksNoSites (first ∷ lines) = (sites : ℕ) → ¬ SaysSites first.1 sites
 
--- why a script isn't read. Want of memory says nothing of it
+-- why a script isn't read; `NoMemory` says nothing about the script
 abbrev pub IsUnreadScript : List ℕ → ScriptFault → Type 0
 IsUnreadScript text BadSites = SpeaksNoSites (spoken text)
 IsUnreadScript text (BadLine number) = ⊥

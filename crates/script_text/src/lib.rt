@@ -2,10 +2,10 @@
 //!
 //! Its tests are in the crate `text_tests`.
 //!
-//! It is a crate of its own so that the refusals of a script are proved beside those of the other texts. Not taken:
-//! JSON for scripts, which people write by hand.
+//! It is a crate of its own so that the parser of scripts has a contract like those of the other texts. Not taken:
+//! JSON, since scripts are written by hand.
 //!
-//! A script is read line by line. Empty lines and those that begin with `#` are passed over. The first of the others is
+//! A script is read line by line. Empty lines and lines that begin with `#` are skipped. The first of the others is
 //! `sites N`, with N from 1 to 64, and each later one is one of these, with one blank between its fields:
 //!
 //! | Line | What it asks for |

@@ -50,7 +50,7 @@ pub struct Script<'a> {
     pub bad_line: Option<u64>,
 }
 
-/// Why a line asks for nothing.
+/// Why a line of a script is bad.
 #[derive(Drop)]
 enum LineFault {
     Bad,
@@ -205,7 +205,7 @@ fn named_site(front: &[u8]) -> Option<&[u8]>
     Some(&front[1..])
 }
 
-/// Why a line asks for nothing whose body or front isn't read.
+/// The fault of a line whose body or front can't be read.
 fn line_fault(fault: &OpTextFault) -> LineFault
     ensures { result ≡ line_fault_of fault.now }
 {

@@ -1,10 +1,10 @@
-//! The ends of a connection of sealed lines: a source, of which only what was verified is read, and a drain, which
-//! seals each line that is written.
+//! The ends of a connection of sealed lines: a source from which only verified lines are read, and a drain that seals
+//! each line written to it.
 //!
 //! Its tests are in the crate `seal_tests`.
 //!
-//! It is here so that sessions and pulls read and write sealed lines as they do plain ones. Not taken: an end where a
-//! line isn't sealed as it has to be, after which a session would look as if it had ended well.
+//! It is a crate of its own so that sessions and pulls read and write sealed lines as they do plain ones. Not taken:
+//! reporting a line with a bad seal as the end of the input, after which a session would seem to have ended well.
 //!
 //! An example of its use:
 //!

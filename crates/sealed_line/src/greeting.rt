@@ -11,7 +11,7 @@ use keyed_digest::is_same;
 use std::alloc::{AllocError, Allocator};
 use std::str;
 
-/// The first line of who comes in.
+/// The client's first line.
 #[derive(Clone, Copy, Debug, PartialEq, Eq)]
 pub struct Greeting {
     /// Its site, or 0 where it is none: a feed, or a command.
@@ -22,7 +22,7 @@ pub struct Greeting {
     pub nonce: [u8; 16],
 }
 
-/// What who answers says before its proof.
+/// The server's first line, without its proof.
 #[derive(Clone, Copy, Debug, PartialEq, Eq)]
 pub struct Reply {
     /// Its site.
@@ -31,10 +31,10 @@ pub struct Reply {
     pub nonce: [u8; 16],
 }
 
-/// The first line of who answers.
+/// The server's first line.
 #[derive(Clone, Copy, Debug, PartialEq, Eq)]
 pub enum Answer {
-    /// It has the key, as the proof shows to who has it, too.
+    /// It has the key, as the proof shows.
     Proved(Reply, [u8; 32]),
     /// It has no key of that name.
     NoKey,

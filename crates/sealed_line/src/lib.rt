@@ -1,11 +1,12 @@
-//! Lines between sites on different machines, sealed under keys that only these have. A line that was changed, added or
-//! repeated isn't opened, nor is any after one that was dropped; that the last ones were dropped doesn't show.
+//! Lines between sites on different machines, encrypted and authenticated under keys that only these have. A line that
+//! was changed, inserted or replayed isn't opened, nor is any line after a dropped one; a truncation at the end of a
+//! connection isn't detected.
 //!
 //! Its tests are in the crate `seal_tests`.
 //!
-//! It is here since the toolchain has no TLS. What it has is used: SHA-256, ChaCha20's block, base64, hex. Not taken:
-//! a cipher without a tag, under which bits can be flipped; one key for both directions, under which a line can be sent
-//! back.
+//! It is a crate of its own because the toolchain has no TLS. It is built on the toolchain's SHA-256, ChaCha20 block
+//! function, base64 and hex. Not taken: a cipher without a tag, which allows bit-flipping; one key for both directions,
+//! which allows reflection.
 //!
 //! An example of its use:
 //!

@@ -134,7 +134,7 @@ pub record AreSealedEnds {S D : Type 0} (left : S → Option (List ℕ)) (taken 
   pub nothing_read : link_left left reads ≡ left_of [] keys.outward [] (left source)
   pub nothing_written : link_taken taken writes ≡ option_map (λ _. []) (taken drain)
 
--- the same of the ends that come of it
+-- the same, for the ends of the connection
 abbrev pub DialsEnds : {S D : Type 0} → (S → Option (List ℕ)) → (D → Option (List ℕ)) → List ℕ → Greeting → List ℕ → S
     → D
     → Result (LinkSource S × LinkDrain D) DialFault → Type 0

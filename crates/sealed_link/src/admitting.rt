@@ -1,4 +1,4 @@
-//! Who is let in.
+//! The server side of the handshake.
 
 ghost use Rattle.std.specs.Prelude.{◌≡◌, ◌≢◌, ◌++◌, All, IfOk, MatchOption, codes};
 ghost use Rattle.byte_ends.specs.Lines.{as_line};
@@ -12,7 +12,7 @@ use key_file::{Key, Keys, Role};
 use sealed_line::{Answer, Greeting, Reply, session_keys};
 use std::alloc::{AllocError, Global};
 
-/// Who was let in: the role of its key, the line that answers it, with its line end, and the wire of the connection.
+/// An admitted client: the role of its key, the answer line, with its line end, and the wire of the connection.
 #[derive(Drop)]
 pub struct Admitted {
     pub role: Role,
@@ -20,8 +20,8 @@ pub struct Admitted {
     pub wire: Wire,
 }
 
-/// Lets in whoever greets with a key of these; nothing where no key has the ID. The nonce is random bytes, other ones
-/// each time. It costs O(keys).
+/// Admits a client whose greeting has the ID of one of these keys; `None` if no key has that ID. The nonce is random
+/// bytes, different ones each time. It costs O(keys).
 pub fn admit(
     alloc: Global,
     keys: &Keys,
@@ -42,7 +42,7 @@ pub fn admit(
     }
 }
 
-/// Lets in who has this key.
+/// Admits a client with this key.
 fn let_in(
     alloc: Global,
     key: &Key,
@@ -60,7 +60,7 @@ fn let_in(
     })
 }
 
-/// The line that answers who has no key, `no 12 NoKey`, with its line end.
+/// The answer to a client without a key, `no 12 NoKey`, with its line end.
 pub fn refusal_line(alloc: Global) -> Result<Vec<u8>, AllocError>
     ensures { IfOk result (λ line. line.items ≡ as_line (codes "no 12 NoKey")) }
 {

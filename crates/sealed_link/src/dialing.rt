@@ -1,4 +1,4 @@
-//! Begins a connection as who comes in.
+//! The client side of the handshake.
 
 ghost use Rattle.std.specs.Prelude.{◌≡◌, ◌≢◌, ◌++◌, [], ◌∷◌, List, ℕ, Err, IfErr, IfOk, MatchOption, MatchResult, OnErr, OnOk, Some};
 ghost use Rattle.std.specs.Io.KnownBytes.{Consumes, IsAtEnd, Keeps};
@@ -49,8 +49,8 @@ pub fn dial<S: Source, D: Drain>(
     }
 }
 
-/// The same, with the ends that come of it: what is written is sealed as the lines of who comes in, and what is read is
-/// opened as those of who answers.
+/// The same, and returns the ends of the connection: what is written is sealed as the client's lines, and what is read
+/// is opened as the server's.
 pub fn dialed<S: Source + Drop, D: Drain + Drop>(
     alloc: Global,
     secret: &[u8; 32],

@@ -1,10 +1,11 @@
-//! How a sealed connection begins on both sides, and the sealed lines of the side that answers, for a loop that polls
+//! The handshake of a sealed connection on both sides, and the sealed lines of the server side, for a loop that polls
 //! sockets.
 //!
 //! Its tests are in the crate `seal_tests`.
 //!
-//! It is here so that what dials, what lets in, and what polls a site's sockets begin a connection by the same lines.
-//! Not taken: the next nonce made here, since the system's random bytes aren't for a crate that is proved over values.
+//! It is a crate of its own so that the client, the server and the loop that polls a site's sockets share one
+//! handshake. Not taken: nonces generated here: the caller passes them, so that the handshake is a function of its
+//! arguments.
 //!
 //! An example of its use:
 //!

@@ -15,7 +15,7 @@ pub gate_refused : (gate : List ℕ) (load : Option (List ℕ)) (old new : Conso
     → IsRefused (input gate_file gate) old new refusal → AreRefused (site_inputs gate load) old new refusal
 gate_refused gate load old new refusal is = inl (inl is)
 
--- what is loaded is refused once the gate was had
+-- the snapshot to load is refused after the gate was read
 pub load_refused : (gate : List ℕ) (rules : GateRules) (load : Option (List ℕ)) (old mid new : ConsoleState)
     (refusal : Refusal) → IsHad (input gate_file gate) (λ text. SpellsGate text rules) old mid
     → AreRefused (loads_of load) mid new refusal → AreRefused (site_inputs gate load) old new refusal
@@ -27,7 +27,7 @@ pub snapshot_refused : (name : List ℕ) (old new : ConsoleState) (refusal : Ref
     → IsRefused (input snapshot_file name) old new refusal → AreRefused (loads_of (Some name)) old new refusal
 snapshot_refused name old new refusal is = inl (inl is)
 
--- memory is refused for a record whose snapshot was had
+-- memory is refused for the record of a snapshot that was read
 pub memory_refused : (name : List ℕ) (ops : List Operation) (old new : ConsoleState)
     → IsHad (input snapshot_file name) (λ text. SaysOperations (lines_of text) ops) old new
     → AreRefused (loads_of (Some name)) old new Memory

@@ -35,7 +35,7 @@ AreInputs gate load rules loaded old new =
     (mid : ConsoleState) × IsHad (input gate_file gate) (λ text. SpellsGate text rules) old mid
     × IsLoaded load loaded mid new
 
--- the gate file, and then the snapshot that is loaded, where one is named
+-- the inputs of a site: the gate file, and then the snapshot to load, if one is named
 abbrev pub loads_of : Option (List ℕ) → List Input
 loads_of None = []
 loads_of (Some name) = input snapshot_file name ∷ []
@@ -43,7 +43,8 @@ loads_of (Some name) = input snapshot_file name ∷ []
 abbrev pub site_inputs : List ℕ → Option (List ℕ) → List Input
 site_inputs gate load = input gate_file gate ∷ loads_of load
 
--- the first input that can't be had is refused; or all are had, and memory is refused for the record
+-- the first input that can't be read or is invalid is refused; or all are read and valid, and memory is refused for the
+-- record
 abbrev pub AreRefused : List Input → ConsoleState → ConsoleState → Refusal → Type 0
 AreRefused inputs old new refusal =
     IsFirstRefused inputs old new refusal
@@ -65,17 +66,17 @@ HasSurvivors text begun = (book : Book) (image : Image) (published : List Operat
     → IsLeftBy image text → Survive book published → IsPartOf published begun
 
 module _ {E : Type 0} (output : E → ErrorOutput) where
-  -- how many bytes of a torn line were cut off is said; where none were nothing is
+  -- it is reported how many bytes of a torn line were cut off; if none were, nothing is reported
   abbrev pub SaysTorn : ℕ → E → E → Type 0
   SaysTorn torn old new = (torn ≡ 0 → new ≡ old) × (0 < torn → ShowsLine (torn_line torn) (output old) (output new))
 
-  -- the journal of this text was opened, and that is said of its torn line
+  -- the journal of this text was opened, and its torn line is reported like that
   abbrev pub SaysTornOf : List ℕ → E → E → Type 0
   SaysTornOf text old new =
       (own : List Operation) × (torn : ℕ) × (after : List ℕ) × IsOpened text own torn after × SaysTorn torn old new
 
--- why no record is begun: the journal isn't opened, for what its tape has, and nothing is said; or what was loaded isn't
--- added to it
+-- why no record is begun: the journal can't be opened because of what its tape has, and nothing is reported; or what
+-- was loaded can't be added to it
 abbrev pub IsUnbegun : {E : Type 0} → Option Image → E → E → Ended → Type 0
 IsUnbegun known old new (Journal fault) = (new ≡ old) × IfSome known (λ i. IsJournalRefusal i.contents fault)
 IsUnbegun known old new (Site fault) = Unit {0}

@@ -4,7 +4,8 @@ use Rattle.pull_guard.specs.Guards.{MayBegin}
 use Rattle.replica_core.specs.Starts.{IsUnused}
 use Rattle.review_ops.specs.Operation.{Operation}
 
--- the start is later than each that the site has in the record, one is left above it, and where one is named it is that
+-- the start is greater than each that the site has in the record, and isn't the greatest possible one; if a start is
+-- named, it is that one
 abbrev pub IsStartOf : ℕ → Option ℕ → List Operation → ℕ → Type 0
 IsStartOf site named journal start =
     IsUnused site start journal × MayBegin start × IfSome named (λ wanted. start ≡ wanted)

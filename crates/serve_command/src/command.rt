@@ -1,4 +1,4 @@
-//! Runs a site over sockets of this machine, as the words of the command line ask for.
+//! Runs the command `serve`.
 
 ghost use Rattle.std.specs.Prelude.{◌≡◌, Err, IfErr, IfOk, option_map};
 ghost use Rattle.serve_command.specs.Beginning.{AreInputs, AreRefused, IsLoaded, loads_of, site_inputs};
@@ -35,19 +35,19 @@ use std::time::Clock;
 /// How `serve` ended.
 #[derive(Drop)]
 pub enum Ended<'n> {
-    /// In order.
+    /// In an orderly way.
     Well,
-    /// Its gate file, its snapshot or its output, or memory.
+    /// Its gate file, its snapshot or its output was refused, or memory.
     Refused(Refusal<'n>),
-    /// Its keys, in the file of this name.
+    /// Its keys were refused, in the file of this name.
     Keys(KeyFault, &'n str),
-    /// Its journal, as it was opened.
+    /// Its journal file couldn't be opened.
     Journal(JournalFault),
-    /// The site itself.
+    /// The site failed.
     Site(ServeFault),
-    /// Its port or its files, or a start that another process has.
+    /// Its port or its files failed, or another process runs under its start.
     Program(ProgramFault),
-    /// Its output failed while it ran, which was said then.
+    /// Its output failed while it ran, which was reported then.
     Unprinted,
 }
 
@@ -271,7 +271,7 @@ fn tape_of<R: Files<File = File>>(
     }
 }
 
-/// A journal file, unless a snapshot that is saved at a path would take its place, or be written in it before.
+/// The journal file, unless it is the snapshot's file, or the one that the snapshot is first written to.
 fn apart_from<R: Files>(
     rt: &R,
     alloc: Global,
@@ -287,7 +287,7 @@ fn apart_from<R: Files>(
     Ok(tape)
 }
 
-/// How a site with a journal ended, which may not have been opened.
+/// How a site with a journal ended, if the journal could be opened, else why it couldn't.
 fn ended_of<K: Drop>(ran: Result<Finished<K>, Ended<'static>>) -> Result<(), Ended<'static>>
     ensures ran { IfOk ran.entry (λ finished. result ≡ finished.ended) }
     ensures refused { IfErr ran.entry (λ ended. result ≡ Err ended) }
@@ -316,8 +316,8 @@ fn read_from<'n, I: Source, O: Drain, N: Named>(
     read_inputs(alloc, gate, load, &mut console)
 }
 
-/// The gate, and the record to begin with. Refusals: that of the first input that can't be had; `Memory`, memory was
-/// refused for the record once all were had.
+/// The gate, and the record to begin with. Refusals: that of the first input that can't be read or is invalid;
+/// `Memory`, memory was refused for the record after all were read.
 fn read_inputs<'n, C: Console>(
     alloc: Global,
     gate: &'n str,

@@ -5,7 +5,7 @@ use std::fs::Metadata;
 use std::os::unix::fs::MetadataExt;
 use std::rt::Files;
 
-/// Which file of the system one is: of two that are there at once it differs.
+/// The identity of a file: two files that exist at the same time have different ones.
 #[derive(Clone, Copy, Debug, PartialEq, Eq)]
 pub struct FileNumber {
     device: u64,
@@ -21,8 +21,8 @@ impl FileNumber {
         }
     }
 
-    /// That of what is at a path, which isn't followed where it is a link; none where nothing is there, or the system
-    /// doesn't say.
+    /// The identity of the file at a path, without following a link; `None` if there is none, or the system refuses to
+    /// say.
     pub fn at<R: Files>(rt: &R, path: &str) -> Option<FileNumber> {
         match fs::symlink_metadata(rt, path) {
             Ok(found) => Some(FileNumber::of(&found)),

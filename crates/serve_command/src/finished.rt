@@ -1,4 +1,4 @@
-//! How a site of the program ends: what is saved of it, and what is given back.
+//! Ends a site of the program: saves its record, and gives back its keeper.
 
 ghost use Rattle.std.specs.Prelude.{◌≡◌, Err, List, None, Ok};
 ghost use Rattle.review_ops.specs.Operation.{Operation};
@@ -17,12 +17,12 @@ use site_serve::{Closed, Served};
 pub struct Finished<K> {
     /// What keeps its operations.
     pub keeper: K,
-    /// What it had in the end, where it was run to its end.
+    /// Its record at the end, if it was run to its end.
     pub left: Option<Replica>,
     pub ended: Result<(), Ended<'static>>,
 }
 
-/// A site that wasn't run.
+/// The result of a site that couldn't be run.
 pub fn unrun<K: Keeps>(keeper: K, ended: Ended<'static>) -> Finished<K>
     ensures kept { (begun : List Operation) → LeavesKept K.survives (K.holds keeper) begun result.keeper result.left }
     ensures left { result.left ≡ None }

@@ -1,4 +1,4 @@
-//! What a site shares with the thread that hears its input.
+//! What a site shares with the thread that reads its standard input.
 
 use super::input_end::{Asked, hear_input, lines_of_input};
 use super::shared_errors::SharedErrors;
@@ -11,7 +11,7 @@ use std::sync::{Arc, Wait};
 use std::thread::Threads;
 use std::time::Clock;
 
-/// The wish to stop, the gates that are put in force, and the error output.
+/// The stop flag, the gates that are put in force, and standard error.
 #[derive(Drop)]
 pub struct Heard<R> {
     pub stop: Arc<Stop, Global>,
@@ -20,7 +20,7 @@ pub struct Heard<R> {
 }
 
 impl<R: Wait + Clock + Copy> Heard<R> {
-    /// Nobody wishes that the site stops, and no gate but its first is in force.
+    /// The stop flag isn't set, and the site's first gate is in force.
     pub fn new(alloc: Global, errors: SharedErrors<R>) -> Result<Heard<R>, AllocError> {
         let stop = Arc::new(alloc, Stop::new()).map_err(|_| AllocError)?;
         let reloads = Arc::new(alloc, Reloads::new()).map_err(|_| AllocError)?;
@@ -31,7 +31,7 @@ impl<R: Wait + Clock + Copy> Heard<R> {
         })
     }
 
-    /// What the lines of the input are about, where the gate file has this name.
+    /// What the thread needs to handle lines, given the name of the gate file.
     pub fn asked<N: Drop>(
         &self,
         alloc: Global,
@@ -52,8 +52,8 @@ impl<R: Wait + Clock + Copy> Heard<R> {
     }
 }
 
-/// Has a thread hear what the lines of the input ask for, where the site ends with it; else the input isn't read. What
-/// the site shares with that thread.
+/// With `--until-input-ends`, starts a thread that handles the lines of the input; else the input isn't read. Returns
+/// what the site shares with that thread.
 pub fn hear<R, I, N, E>(
     rt: R,
     alloc: Global,
@@ -79,7 +79,7 @@ where
     }
 }
 
-/// What a site shares with the thread that hears its input, over this error output.
+/// What a site shares with the thread that reads its standard input, with this standard error.
 fn heard_over<R, E>(rt: R, alloc: Global, errors: E) -> Result<Heard<R>, ServeFault>
 where
     R: Threads + Wait + Clock + Copy + Send + 'static,
@@ -92,7 +92,7 @@ where
     }
 }
 
-/// Has a thread hear what the lines of the input ask for.
+/// Prepares the thread that handles the lines of the input, and starts it.
 fn begin<R, I, N>(
     rt: R,
     alloc: Global,
@@ -112,7 +112,7 @@ where
     }
 }
 
-/// Has a thread do what the lines of the input ask for.
+/// Starts the thread that handles the lines of the input.
 fn begin_by<R, I, N>(rt: R, alloc: Global, input: I, asked: Asked<R, N>) -> Result<(), ServeFault>
 where
     R: Threads + Wait + Clock + Copy + Send + 'static,

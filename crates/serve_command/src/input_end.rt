@@ -1,4 +1,4 @@
-//! What a site is asked for on its standard input.
+//! The commands on a site's standard input: `stop`, `reload`, and its end.
 
 ghost use Rattle.std.specs.Prelude.{◌≡◌, IfErr, IfNone, IfOk, IfSome};
 ghost use Rattle.console.specs.Console.{is_input};
@@ -20,24 +20,24 @@ use std::thread;
 use std::thread::Threads;
 use std::time::Clock;
 
-/// The most bytes of a line that is looked at.
+/// The maximum length of a line, in bytes; a longer one is skipped.
 const LINE_LIMIT: usize = 1024;
 
-/// What is asked for by the next line of the input.
+/// What the next line of the input asks for.
 #[derive(Clone, Copy, Debug, PartialEq, Eq)]
 pub enum Wish {
     /// Nothing.
     Nothing,
-    /// That the gate file is read again.
+    /// To read the gate file again.
     Reload,
-    /// That the site stops.
+    /// To stop the site.
     Stop,
-    /// Nothing any more: the input has ended.
+    /// The input has ended.
     Over,
 }
 
-/// What the lines of the input are about: the wish to stop, the gates that are put in force, the name of the gate file,
-/// what it is read by, and where a gate file that is refused is reported.
+/// What the thread needs to handle lines: the stop flag, the gates that are put in force, the name of the gate file,
+/// the files, and standard error for refusals.
 #[derive(Drop)]
 pub struct Asked<R, N> {
     pub stop: Arc<Stop, Global>,
@@ -47,14 +47,14 @@ pub struct Asked<R, N> {
     pub errors: SharedErrors<R>,
 }
 
-/// What lines are read with.
+/// The reader of the input's lines.
 pub fn lines_of_input(alloc: Global) -> Result<LineReader, AllocError> {
     LineReader::new(alloc, LINE_LIMIT).map_err(|_| AllocError)
 }
 
-/// Has a thread of its own hear what the lines of the input ask for: at a line `reload` the gate file is read again,
-/// and at a line `stop`, or at the end of the input, the site is asked to stop. Nobody waits for that thread. Whether
-/// the system gave it.
+/// Starts a thread that handles the lines of the input: at a line `reload` it reads the gate file again, and at a line
+/// `stop`, or at the end of the input, it asks the site to stop. The thread is detached. Returns whether it could be
+/// started.
 pub fn hear_input<R, I, N>(
     rt: R,
     alloc: Global,
@@ -70,7 +70,7 @@ where
     thread::spawn(&rt, move || heed(rt, alloc, lines, input, asked)).is_ok()
 }
 
-/// Does what the lines of the input ask for, to its end or the line `stop`, and then asks the site to stop.
+/// Handles the lines of the input up to its end or a line `stop`, and then asks the site to stop.
 fn heed<R, I, N>(rt: R, alloc: Global, lines: LineReader, input: I, asked: Asked<R, N>)
 where
     R: Wait + Clock + Copy,
@@ -88,7 +88,7 @@ where
     asked.stop.ask(&rt);
 }
 
-/// What the next line of the input asks for. A longer line is passed over. An input that fails has ended.
+/// What the next line of the input asks for. A line that is too long is skipped. A failed read is the end of the input.
 fn next_wish<S: Source>(lines: &mut LineReader, input: &mut S) -> Wish {
     match lines.next_line(input) {
         Ok(true) => wish_in(lines.line()),
@@ -114,7 +114,7 @@ fn wish_in(line: &[u8]) -> Wish
     }
 }
 
-/// Has the gate file read again, and puts its gate in force. One that is refused is reported, and the gate before it
+/// Reads the gate file again, and puts its gate in force. If it is refused, that is reported, and the present gate
 /// stays in force.
 fn reload<R, N>(rt: R, alloc: Global, asked: &mut Asked<R, N>)
 where
@@ -155,8 +155,8 @@ fn read_by<I: Source, O: Drain, N: Named, E: Drain>(
     read_again(alloc, name, &mut console, errors)
 }
 
-/// The gate of a name, read again. What was read from the input can't be. A gate that is refused is written to the
-/// error output as at the start; nothing else is.
+/// The gate of a name, read again. A gate that came from standard input can't be read again. A refusal is written to
+/// standard error as at the start; nothing else is.
 fn read_again<C: Console, E: Drain>(
     alloc: Global,
     name: &str,

@@ -1,4 +1,4 @@
-//! The record of a site that has a journal.
+//! Begins the record of a site with a journal.
 
 ghost use Rattle.std.specs.Prelude.{◌≡◌, ◌++◌, ◌∷◌, [], IfErr, IfOk, IfSome, List, OnOk};
 ghost use Rattle.console.specs.Showing.{error_output};
@@ -94,7 +94,7 @@ fn add_loaded<T: Tape + Drop>(
     }
 }
 
-/// How a site ends whose journal isn't opened.
+/// How a site ends if its journal file can't be opened.
 pub fn tape_fault(fault: TapeFault) -> Ended<'static> {
     match fault {
         TapeFault::Locked => Ended::Program(ProgramFault::Locked),
@@ -121,7 +121,7 @@ fn add_lacking<T: Tape>(
     add_all(journal, &mut lacking)
 }
 
-/// Gathers an operation, and adds to a journal what is gathered once that is much.
+/// Adds an operation to the batch, and appends the batch to the journal when it is full.
 fn gather<T: Tape>(
     journal: &mut Journal<T>,
     gathered: &mut Vec<Op>,

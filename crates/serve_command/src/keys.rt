@@ -7,7 +7,7 @@ use key_files::KeyReader;
 use site_address::PeerAddress;
 use site_serve::Turn;
 
-/// A host that does nothing before and after a session, and reads keys as this does.
+/// The host of a site that does nothing before and after a session, and reads keys with this reader.
 #[derive(Drop)]
 pub struct Host<'a, L: KeyReader> {
     pub reader: &'a L,

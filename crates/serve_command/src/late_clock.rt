@@ -1,4 +1,4 @@
-//! What is said of a record whose clock is near its end.
+//! The warning about a record with a very late time.
 
 ghost use Rattle.std.specs.Prelude.{◌≡◌, ◌≤◌, ◌<◌, ◌^◌, IfOk, string_bytes};
 ghost use Rattle.console.specs.Showing.{ShowsLine, error_output};
@@ -15,9 +15,9 @@ use std::alloc::{AllocError, Global};
 /// 2^63: a greatest time above this is reported.
 const HALF: u64 = 9_223_372_036_854_775_808;
 
-/// Writes the greatest time of a record to the error output where it is above 2^63, or the line of want of memory,
-/// where memory is refused for that. No real clock gets so far: a peer handed the record over, or a file did. What the
-/// error output can't take is lost.
+/// Writes the greatest time of a record to standard error if it is above 2^63, or the line `NoMemory` if memory is
+/// refused for that. No honest clock gets there: the time came from a peer or a file. If standard error fails the line
+/// is lost.
 pub fn show_late_clock<E: Drain>(alloc: Global, replica: &Replica, errors: &mut E)
     ensures early { greatest (times replica.now) ≤ 2 ^ 63 → errors.new ≡ errors.old }
     ensures late { 2 ^ 63 < greatest (times replica.now) → ShowsLine (late_clock_line (greatest (times replica.now)))

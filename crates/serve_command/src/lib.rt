@@ -1,9 +1,9 @@
-//! `serve`: a site that runs as a program, from its files and its port to its snapshot.
+//! `serve`: runs a site as a program, from reading its files and listening to saving its snapshot.
 //!
 //! Its tests are in the crate `program_tests`.
 //!
-//! It is a crate of its own so that the order of a site's start and end is over any tape and any output. Not taken:
-//! daemon mode, privileges and log files, which systemd does.
+//! It is a crate of its own so that the order of steps at a site's start and end is proved over any tape and any
+//! output. Not taken: daemon mode, privileges and log files, which systemd does.
 //!
 //! An example of its use:
 //!

@@ -1,4 +1,4 @@
-//! Listens for the sessions of a site and for browsers, and says where.
+//! Opens the listeners of a site, for sessions and for browsers, and prints their addresses.
 
 ghost use Rattle.std.specs.Prelude.{◌≡◌, ◌++◌, IfOk, codes, string_bytes};
 ghost use Rattle.serve_command.specs.Listening.{bits_of, port_of};
@@ -22,7 +22,7 @@ use std::random::RandomSource;
 use std::rt::Files;
 use std::{fs, io};
 
-/// What a site listens at.
+/// The listeners of a site.
 #[derive(Drop)]
 pub struct SiteListeners {
     /// For its sessions.
@@ -31,7 +31,7 @@ pub struct SiteListeners {
     pub page: Option<(PageEndpoint, Waker)>,
 }
 
-/// What a site listens at, and the sockets that it made for that.
+/// The listeners of a site, and the Unix sockets that it created for them.
 #[derive(Drop)]
 pub struct Listening<'a> {
     pub site_listeners: SiteListeners,
@@ -69,8 +69,7 @@ where
     }
 }
 
-/// Removes the sockets that a site made. One that is gone already stays gone, and what another site has made in its
-/// place stays there.
+/// Removes the Unix sockets that a site created. A socket that another site has created at the path meanwhile stays.
 pub fn leave<R: Files>(rt: &R, sockets: &[MadeSocket<'_>]) {
     for socket in sockets {
         if FileNumber::at(rt, socket.path) == socket.number {

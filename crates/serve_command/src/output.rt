@@ -1,4 +1,4 @@
-//! The output of a site that doesn't hold back its end.
+//! The standard output of a site, which can't delay its end.
 
 use byte_ends::{Ends, write_all};
 use crossbeam_channel::{Receiver, RecvTimeoutError, Sender, bounded};
@@ -10,10 +10,10 @@ use std::thread::Threads;
 use std::time::{Clock, Duration};
 use std::{io, thread};
 
-/// How many milliseconds a write waits before it looks again whether the site stops.
+/// After how many milliseconds a waiting write checks again whether the site stops.
 const TICK_MS: u64 = 100;
 
-/// After how many such looks, from the stop on, a write is given up: after 30 seconds.
+/// After how many such checks, from the stop on, a write is given up: 30 seconds.
 const LAST_LOOKS: u32 = 300;
 
 /// Standard output, written by a thread of its own. A write waits for it without end while the site runs; once the site

@@ -1,4 +1,4 @@
-//! Makes what a site runs with: its start, what it listens at, what hears its input and its output.
+//! Prepares a site: chooses its start, opens its listeners, and starts the threads of its input and output.
 
 ghost use Rattle.std.specs.Prelude.{◌≡◌, IfOk};
 ghost use Rattle.serve_command.specs.Starts.{IsStartOf};
@@ -34,8 +34,7 @@ pub struct Site<'a> {
     pub replica: Replica,
 }
 
-/// What a site hears and says beside its sockets and its reports: its input, the files that it reads, and where what is
-/// wrong is written.
+/// A site's standard input, the files that it reads, and its standard error.
 #[derive(Drop)]
 pub struct Outside<I, N, E> {
     pub input: I,
@@ -51,7 +50,7 @@ pub struct Opened<'a> {
     pub listening: Listening<'a>,
 }
 
-/// A site that listens, whose input is heard and whose output is made.
+/// A site that listens, with the threads of its input and output.
 #[derive(Drop)]
 pub struct Prepared<'a, R, O> {
     pub opened: Opened<'a>,

@@ -1,4 +1,4 @@
-//! Runs a site over what keeps its operations, to the snapshot that is saved of it.
+//! Runs a site over its keeper, and saves its snapshot.
 
 ghost use Rattle.std.specs.Prelude.{◌≡◌, IfErr, IfOk, IfSome, List, OnErr, OnOk, option_map};
 ghost use Rattle.console.specs.Showing.{error_output};
@@ -142,8 +142,8 @@ where
     }
 }
 
-/// Runs a site that is prepared, and saves what it has left. The sockets that were made for it are removed, and what is
-/// to be said on its error output is said before it ends.
+/// Runs a prepared site, and saves its record. The Unix sockets that were created for it are removed, and it waits a
+/// short time for its lines on standard error to be written before it ends.
 fn run_prepared<R, O, L, S, K>(
     rt: R,
     alloc: Global,

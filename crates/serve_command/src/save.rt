@@ -16,7 +16,7 @@ use std::{fs, io};
 
 /// Where the record of a site is saved once it has ended.
 pub trait Saves {
-    /// What it means that this record was saved in between.
+    /// The record was saved between the two states.
     ghost saves: { Self → List Operation → Self → Type 0 };
 
     /// Saves a record, in the place of one that was saved before, if a record is to be saved at all.

@@ -1,4 +1,4 @@
-//! The error output of a site, for which none of its threads waits.
+//! The standard error of a site, for which none of its threads waits.
 
 use byte_ends::{Drain, Failed, write_all};
 use crossbeam_channel::{Receiver, Sender, bounded};
@@ -14,17 +14,18 @@ const LINES: usize = 1_024;
 /// For how many milliseconds a site that ends waits until its lines are written.
 const LAST_MS: u64 = 1_000;
 
-/// What the thread that writes is given.
+/// A message to the thread that writes.
 #[derive(Drop)]
 enum Errand {
     /// A line that is to be written.
     Line(Vec<u8>),
-    /// Who is to hear that all lines before were written.
+    /// Replies once all lines before it were written.
     Wait(Sender<(), Global>),
 }
 
-/// The error output, which a thread of its own writes to: each write is a line, and those of several threads don't mix.
-/// Where the output takes none and too many lines wait, a further one is lost, so that nobody waits for who reads them.
+/// Standard error, which is written by a thread of its own: each write is a line, and lines of several threads don't
+/// mix. If standard error is blocked and too many lines wait, further lines are lost, so that no thread waits for a
+/// reader.
 #[derive(Drop)]
 pub struct SharedErrors<R> {
     rt: R,

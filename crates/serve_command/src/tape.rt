@@ -1,4 +1,4 @@
-//! A journal's file, which one process has at a time.
+//! A journal file as a tape, locked by one process at a time.
 
 ghost use Rattle.byte_ends.specs.Failures.{CountsFailure, OneFailed};
 
@@ -20,7 +20,7 @@ pub enum TapeFault {
     Failed,
 }
 
-/// A file as a tape. What the system does with it isn't modelled: that what was synced stays is trusted.
+/// A file as a tape. The system isn't modelled: that synced bytes stay is assumed.
 #[derive(Drop)]
 pub struct FileTape {
     file: File,

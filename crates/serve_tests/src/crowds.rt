@@ -183,7 +183,7 @@ fn taking_many(alloc: Global) -> Result<(String, String), Fail> {
     Ok((lines, wanted))
 }
 
-/// Each answer stands at the place of its line, and a look sees what was taken in before it.
+/// The answers are in the order of their lines, and a look sees what was taken in before it.
 #[test]
 fn lines_at_once_are_answered_in_order(rt: HostRuntime) -> Result<(), Fail> {
     let setup = one_session(rt.alloc(), 1)?;

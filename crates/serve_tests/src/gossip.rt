@@ -171,7 +171,7 @@ where
 #[test]
 fn a_client_that_never_reads_and_a_mute_peer_hold_no_other(rt: HostRuntime) -> Result<(), Fail> {
     let alloc = rt.alloc();
-    // Who connects to it waits for ever: nobody accepts.
+    // A client of it waits forever: nothing accepts the connection.
     let (_mute, nobody) = listening(&rt)?;
     let (listener, port) = listening(&rt)?;
     let setup = with_peer(alloc, 1, nobody)?;

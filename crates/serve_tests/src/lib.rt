@@ -1,6 +1,6 @@
-//! Tests over sockets of this machine: connections, and sites that run, through the public functions of their crates. A
-//! crate of tests alone, as `record_tests` is; those of feeds and of sealed connections are in `feed_tests`, those of
-//! `serve` by its words in `program_tests`.
+//! Tests over sockets of this machine: connections and running sites, through the public functions of their crates. A
+//! crate of tests alone, as `record_tests` is; tests of feeds and of sealed connections are in `feed_tests`, tests of
+//! `serve` by its arguments in `program_tests`.
 #![tactic(auto)]
 
 #[cfg(test)]

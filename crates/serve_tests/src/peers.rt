@@ -35,7 +35,7 @@ const NOTHING: Pull<'static> = Pull {
     asked: "hello 2\nfront []\nquit\n",
 };
 
-/// Runs a site that pulls from the peer at a port: how it ended, and what it wrote to its error output.
+/// Runs a site that pulls from the peer at a port: how it ended, and what it wrote to standard error.
 fn run_pulling<R>(
     rt: &R,
     alloc: Global,
@@ -94,7 +94,7 @@ fn answer_pulls<R: Wait + Clock>(
     count
 }
 
-/// The lines of these events of the peer at a port, as a site writes them to its error output.
+/// The lines of these events of the peer at a port, as a site writes them to standard error.
 fn lines_of(alloc: Global, events: &[&str], port: u16) -> Option<String> {
     let mut lines = String::new(alloc);
     for event in events {
@@ -105,7 +105,7 @@ fn lines_of(alloc: Global, events: &[&str], port: u16) -> Option<String> {
 }
 
 /// Runs a site beside a peer that answers its pulls: how the site ended, in how many pulls it asked just so, and whether
-/// what it wrote to its error output begins with the lines of these events.
+/// what it wrote to standard error begins with the lines of these events.
 fn run_beside<R>(
     rt: &R,
     alloc: Global,

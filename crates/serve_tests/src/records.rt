@@ -27,7 +27,7 @@ const GATE: &[u8] =
 const PATCH_SET: &[u8] =
     br#"{"change":101,"message":"m","op":"patchset","seq":1,"set":1,"site":1,"start":2,"time":1}"#;
 
-/// What a command printed on the output and on the error output, and its status.
+/// What a command wrote to standard output and standard error, and its exit status.
 type Answered = (u8, Vec<u8>, Vec<u8>);
 
 /// What `why` answers of change 101 over the record of the site at a port.

@@ -13,7 +13,7 @@ use std::alloc::AllocError;
 pub struct HostPort<'a> {
     /// A name, or an address of IPv4 or, without its brackets, of IPv6.
     pub host: &'a str,
-    /// 0 stands for one that is free, to listen at.
+    /// 0 means a free port, chosen by the system, to listen at.
     pub port: u16,
 }
 

@@ -1,10 +1,10 @@
-//! Where the sessions of a site are reached, and how a word of the command line names that.
+//! The addresses at which a site is reached, and how a command-line argument names one.
 //!
 //! Its tests are in the crate `words_tests`.
 //!
-//! It is a crate of its own so that `serve`, `events` and all commands that read the record of a running site take the
-//! same words. Not taken: `std::net::SocketAddr`, which names no Unix socket and no host; a host without a key, since a
-//! session alone is neither secret nor safe from changes on its way.
+//! It is a crate of its own so that `serve`, `events` and all commands that read the record of a running site accept
+//! the same addresses. Not taken: `std::net::SocketAddr`, which names no Unix socket and no host; a host without a key,
+//! since a plain session has neither confidentiality nor integrity on a network.
 //!
 //! An example of its use:
 //!

@@ -1,7 +1,7 @@
 -- What the calls of a tape do to what is kept, one after the other.
 use Rattle.std.proofs.Common.{◌≡◌, ℕ, zero, suc, ◌+◌, ◌<◌, ◌≤◌, Bool, true, false, List, [], ◌∷◌, ◌++◌, Option, Some, None}
 use Rattle.std.proofs.Common.{length, take, get_or, refl, sym, ap, ◌∙◌, subst, arith, append-nil, length-append}
-use Rattle.std.specs.Prelude.{◌^◌, IfSome}
+use Rattle.std.specs.Prelude.{IfSome}
 use Rattle.std.proofs.lemmas.List.{take_at, take_all, take_more}
 use Rattle.line_reader.specs.Lines.{line_limit}
 use Rattle.review_ops.specs.Operation.{Operation}
@@ -13,7 +13,7 @@ use Rattle.snapshot_text.specs.Sound.{IsSound, AreSoundOperations}
 use Rattle.site_journal.specs.Prefixes.{IsPrefix}
 use Rattle.site_journal.specs.Text.{AreShort, SaysJournal}
 use Rattle.site_journal.specs.Tape.{Image, IsLeftBy, IsSettled, Changes, Grows, Steadies}
-use Rattle.site_journal.specs.Book.{Book, IsFull, TakesBack, Recovers}
+use Rattle.site_journal.specs.Book.{TakesBack, Recovers}
 use Rattle.site_journal.proofs.Bytes.{prefix-trans, prefix-length}
 
 -- ---- fronts
@@ -105,16 +105,6 @@ long_among [] i op within is long short = absurd (omega (arith, within))
 long_among (o ∷ ops) zero op within is long short =
     absurd (omega (arith, long, subst (λ p. length (operation_text p) ≤ line_limit) (sym is) short.0))
 long_among (o ∷ ops) (suc i) op within is long short = long_among ops i op (omega (arith, within)) is long short.1
-
--- no journal has room for more than 2^64 bytes
-pub full_after : (book : Book) (len more : ℕ) (ops : List Operation) → more ≡ length (operation_lines ops)
-    → IfSome book.image (λ i. IsSettled i × (length i.contents ≡ len)) → 2 ^ 64 ≤ len + more → IsFull book ops
-full_after book len more ops is steady full = full_image book.image steady
-  where
-    full_image : (image : Option Image) → IfSome image (λ i. IsSettled i × (length i.contents ≡ len))
-        → IfSome image (λ i. 2 ^ 64 ≤ length i.contents + length (operation_lines ops))
-    full_image None steady = tt
-    full_image (Some i) steady = omega (arith, is, steady.1, full)
 
 -- ---- crashes
 

@@ -34,7 +34,7 @@ IsUnharmed old new =
     ⊎ ((ops : List Operation) × (rest : List ℕ) × SaysJournal old.contents ops rest
     × IsPrefix (take (length old.contents - length rest) old.synced) new.synced × IsPrefix new.written old.written)
 
--- what an opening that was refused leaves: what there was, or, if the tape failed, no harm
+-- the tape after a refused opening: unchanged, or, if the tape failed, unharmed
 abbrev pub IsLeftRefused : Option Image → JournalFault → Option Image → Type 0
 IsLeftRefused old fault new =
     (¬ (fault ≡ TapeFailed) → new ≡ old) × (fault ≡ TapeFailed → Changes old new IsUnharmed)

@@ -43,7 +43,7 @@ pub record IsBadHeader (text : List ℕ) : Type 0 where
 abbrev pub most_text : ℕ
 most_text = 2 ^ 64 - 131072
 
--- why a text isn't read. A failing end and want of memory say nothing of it
+-- why a text isn't read; a failed end and `NoMemory` say nothing about the text
 abbrev pub IsJournalRefusal : List ℕ → JournalFault → Type 0
 IsJournalRefusal text BadHeader = IsBadHeader text
 IsJournalRefusal text (BadLine number why) = IsBadLine text number why

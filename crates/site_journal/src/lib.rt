@@ -1,12 +1,14 @@
-//! A journal on disk: what its file means, how it is opened, and the promise that what is acknowledged survives.
+//! A journal on disk: the meaning of its file, how it is opened, and the guarantee that acknowledged operations survive
+//! a crash.
 //!
 //! Its tests are in the crate `site_tests`.
 //!
-//! It is a crate of its own so that what survives a crash is said of a tape, and knows no file. Not taken: `sqlite`,
-//! whose own journal would be a second one, and a database of keys and values: the record is a list that only grows.
+//! It is a crate of its own so that its crash guarantee is stated over an abstract tape, without files. Not taken:
+//! `sqlite`, whose own journal would be a second one, and a database of keys and values: the record is a list that only
+//! grows.
 //!
-//! The first line is `reviewgate 2`; then comes one operation a line, in the order in which they came. What is past the
-//! last line end was torn while it was written, and counts for nothing.
+//! The first line is `reviewgate 2`; each further line is one operation, in the order in which they arrived. Bytes
+//! after the last line end are a line that a crash tore, and are ignored.
 //!
 //! An example of its use:
 //!

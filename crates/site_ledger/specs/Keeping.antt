@@ -50,7 +50,7 @@ pub record KeepsOn {K : Type 0} (held_by survives_by : K → List Operation → 
   pub faithful : (first : List Operation) → IsFaithful held_by survives_by first old
       → IsFaithful held_by survives_by first new
 
--- why nothing was published: nothing more is kept from now on just where it wasn't for want of memory
+-- why nothing was published; unless memory was refused, nothing more is kept from now on
 abbrev pub is_over_after : LedgerFault → Bool
 is_over_after NoMemory = false
 is_over_after NotKept = true

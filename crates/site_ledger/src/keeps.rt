@@ -1,4 +1,4 @@
-//! What keeps the operations of a site before anybody is shown them.
+//! The trait of keepers: they store operations before these are published.
 
 ghost use Rattle.std.specs.Prelude.{◌≡◌, ◌++◌, Err, List, OnErr, OnOk};
 ghost use Rattle.review_ops.specs.Operation.{Operation};
@@ -7,24 +7,24 @@ ghost use Rattle.site_journal.specs.declared.fault.KeepFault.TheVariants.{NoMemo
 use review_ops::Op;
 use site_journal::{Journal, KeepFault, Tape};
 
-/// What a site asks to keep operations, before it shows them.
+/// Stores the operations of a site, before they are published.
 pub trait Keeps {
-    /// What it means that it has just these operations, in this order, and that all of them stay.
+    /// It has exactly these operations, in this order, and keeps all of them.
     ghost holds: { Self → List Operation → Type 0 };
 
-    /// What it means that whatever a crash leaves of it says these operations first, in this order.
+    /// Whatever a crash leaves of it begins with these operations, in this order.
     ghost survives: { Self → List Operation → Type 0 };
 
-    /// What it has survives.
+    /// A law: what it has survives a crash.
     fn what_it_has_survives(&self)
         ensures { (ops : List Operation) → holds self.now ops → survives self.now ops };
 
-    /// Of what survives the first operations do, however many.
+    /// A law: each prefix of what survives, survives.
     fn what_comes_first_survives(&self)
         ensures { (ops more : List Operation) → survives self.now (ops ++ more) → survives self.now ops };
 
-    /// Keeps the operations, after those that it has, which stay whether the call fails or not. At `Ok` these stay too.
-    /// After any fault but want of memory nothing is promised of a later call.
+    /// Keeps the operations, after those that it has, which stay whether the call fails or not. At `Ok` the new ones
+    /// stay, too. After any fault but `NoMemory` nothing is promised of a later call.
     fn keep(&mut self, ops: &[Op]) -> Result<(), KeepFault>
         ensures ok { OnOk result
             ((before : List Operation) → holds self.old before → holds self.new (before ++ ops.now)) }
@@ -32,11 +32,11 @@ pub trait Keeps {
         ensures memory { result ≡ Err NoMemory → (before : List Operation) → holds self.old before
             → holds self.new before };
 
-    /// How many bytes it has, where it is a journal: a figure for people, of which this trait promises nothing.
+    /// How many bytes it has, if it is a journal: for metrics; the trait promises nothing of it.
     fn bytes(&self) -> Option<u64>;
 }
 
-/// A site without a journal: nothing outlives it.
+/// The keeper of a site without a journal, which stores nothing.
 #[derive(Clone, Copy, Debug, Drop)]
 pub struct NoJournal;
 

@@ -23,9 +23,9 @@ use std::sync::{Arc, Wait};
 /// Why a ledger doesn't publish.
 #[derive(Clone, Copy, Debug, Drop, PartialEq, Eq)]
 pub enum LedgerFault {
-    /// Memory was refused: what is held still is, and the next publish has it.
+    /// Memory was refused: the operations stay held, and the next publish has them.
     NoMemory,
-    /// What is held couldn't be kept. Nothing is published any more.
+    /// The operations couldn't be kept. Nothing is published any more.
     NotKept,
 }
 
@@ -114,8 +114,8 @@ impl<K: Keeps> Ledger<K> {
         self.keeper.bytes()
     }
 
-    /// Has all that is held kept, whoever asked for it, and then publishes it. Where it isn't kept nothing is
-    /// published, now and later. Waits and costs as `Desk::flush`, and as the keeper.
+    /// Keeps everything that is held, and then publishes it. If it can't be kept, nothing is published, now or later.
+    /// Waits and costs as `Desk::flush`, and as the keeper.
     pub fn publish<R: Wait>(&mut self, rt: &R) -> Result<Receipt, LedgerFault>
         ensures ok { IfOk result (λ receipt. (self.old.is_over ≡ false) × (self.new.is_over ≡ false)
             × (self.new.account ≡ flushing self.old.account)
@@ -161,7 +161,7 @@ impl<K: Keeps> Ledger<K> {
         }
     }
 
-    /// Has all that is held kept, as far as it isn't.
+    /// Keeps the held operations that aren't kept yet.
     fn keep_held(&mut self) -> Result<(), LedgerFault>
         ensures same { self.new.account ≡ self.old.account }
         ensures ok { OnOk result

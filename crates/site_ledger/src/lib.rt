@@ -1,9 +1,10 @@
-//! A ledger: the desk of a running site with what keeps its operations. What it has published was kept before, always.
+//! A ledger: the desk of a running site together with its keeper, the journal or none. Every operation is kept before
+//! it is published.
 //!
 //! Its tests are in the crate `site_tests`.
 //!
-//! It is a crate of its own so that 'kept before it is published' is the invariant of one struct, over any keeper.
-//! Not taken: publishing first and syncing later, which answers `ok` for what a crash loses.
+//! It is a crate of its own so that "kept before published" is the invariant of one struct, over any keeper. Not taken:
+//! publishing first and syncing later, which answers `ok` for what a crash loses.
 //!
 //! An example of its use, without a journal:
 //!

@@ -1,9 +1,10 @@
-//! The connections of a site: where it listens, ends that don't wait for ever, and the wish that a site stops.
+//! The connections of a site: listeners, ends with time-outs, and the flag that asks a site to stop.
 //!
 //! Its tests are in the crate `serve_tests`.
 //!
-//! It is here since every wait of a site for another machine has to end. Not taken: `tokio`, whose tasks would have to
-//! carry the desk between threads; sockets without time-outs, with which a silent peer holds a pull for ever.
+//! It is a crate of its own so that every wait of a site for another machine has a time-out. Not taken: `tokio`, whose
+//! tasks would have to carry the desk between threads; sockets without time-outs, with which a silent peer would block
+//! a pull forever.
 //!
 //! An example of its use:
 //!

@@ -32,9 +32,8 @@ HasNextStamp own = ¬ IsSpent own.journal own.site own.start
 abbrev pub next_operation : OwnState → Deed → Operation
 next_operation own deed = record { stamp = next_of own.journal own.site own.start; deed = kept_deed deed }
 
--- nothing is given for want of memory, and nothing changes; else: an intake is refused where no stamp is left, then
--- where the body is bad, and adds one operation under the next stamp; what a front lacks are the first 256 of the
--- missing operations
+-- memory is refused, and nothing changes; else: an intake is refused where no stamp is left, then where the body is
+-- bad, and adds one operation under the next stamp; what a front lacks are the first 256 of the missing operations
 abbrev pub OwnGives : OwnState → Call → Reply → OwnState → Type 0
 OwnGives old (takes_in deed) (stamped stamp) new =
     HasNextStamp old × IsFaultless deed × (stamp ≡ next_of old.journal old.site old.start)

@@ -1,4 +1,4 @@
-//! Why a site doesn't give what it is asked for.
+//! The faults of ports and sinks.
 
 ghost use Rattle.std.specs.Prelude.{◌≡◌};
 ghost use Rattle.site_port.specs.Fault.{port_number_of, port_name_of, sink_number_of, sink_name_of};
@@ -6,7 +6,7 @@ ghost use Rattle.site_port.specs.Fault.{port_number_of, port_name_of, sink_numbe
 use review_ops::BodyFault;
 use thiserror::Error;
 
-/// Why a port doesn't give what it is asked for.
+/// Why a port refuses a call.
 #[derive(Clone, Copy, Debug, PartialEq, Eq, Error)]
 pub enum PortFault {
     /// 1: no stamp is left.

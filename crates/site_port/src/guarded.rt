@@ -12,7 +12,7 @@ use review_ops::Op;
 /// A sink that is handed operations only if a guard lets all of them in: then the whole list is handed on, in its
 /// order, and else nothing is, and the sink stays as it is. What the guard lets in is judged by the greatest time that
 /// the sink's record has before. Refusals beside those of the sink: 11 `NotListed`, 12 `FarAhead`, as `Guard::admit`
-/// says. Who has it can only look at the sink behind the guard: nothing is handed to that but through the guard.
+/// says. The sink behind the guard can only be looked at: operations reach it through the guard alone.
 #[derive(Drop)]
 pub struct Guarded<'g, K: Sink> {
     /// What the guard lets in.

@@ -1,9 +1,10 @@
-//! What sessions ask of a site, and what pulls hand to one; and the plain site that answers both by itself.
+//! The traits of a site as sessions (`Port`) and pulls (`Sink`) see it, and the plain site that implements both.
 //!
 //! Its tests are in the crate `site_tests`.
 //!
-//! It is a crate of its own so that a session's promise holds over any site: the one of the tests, and one that threads
-//! share. Not taken: sessions over a replica itself, whose law would say nothing of a running site.
+//! It is a crate of its own so that the contract of a session holds over any site: the plain one of the tests, and one
+//! that threads share. Not taken: sessions over a replica itself, whose contract would say nothing about a running
+//! site.
 //!
 //! | Fault | Where |
 //! |---|---|

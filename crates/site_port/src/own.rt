@@ -16,8 +16,8 @@ use std::marker::Model;
 /// How many operations are answered at once.
 const ANSWER_LIMIT: usize = 256;
 
-/// A replica that takes in operations as one site under one start, judged under a gate. It is never closed. Want of
-/// memory changes nothing, but that of operations that are handed over the first so many may have been taken.
+/// A replica that takes in operations as one site under one start, judged under a gate. It is never closed. If memory
+/// is refused nothing changes, except that a prefix of the operations that are handed over may have been taken.
 #[derive(Drop)]
 pub struct OwnPort {
     replica: Replica,

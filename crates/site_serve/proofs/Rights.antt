@@ -1,4 +1,4 @@
--- What came of a session, or that nothing did, and what is left of what it was answered.
+-- Lemmas about what stays the same of a session, its ending, and its unsent answers.
 use Rattle.std.proofs.Common.{◌≡◌, ◌+◌, ◌-◌, ◌∷◌, [], Bool, true, List, ℕ, Option, None, Some, Result, Ok, Err, ap, arith, drop, inl, inr, is_some, length, subst, sym, ◌∙◌}
 use Rattle.std.proofs.Common.{drop-drop}
 use Rattle.std.specs.Prelude.{◌^◌, min, suc}
@@ -26,12 +26,12 @@ reads_came mode after last old new end came result takes kept same =
           (subst (λ m. TakesCame mode came old new result m) (sym kept) takes),
     )
 
--- a session that ends, ends
+-- a session that is given an ending has one
 pub ends_so : {T : Type 0} (before now : Option T) (ending : T) → now ≡ option_or before (Some ending) → is_some now ≡ true
 ends_so None now ending is = ap is_some is
 ends_so (Some first) now ending is = ap is_some is
 
--- what is the same in turn
+-- what two steps leave the same
 pub same_then : {J : Type 0} (old mid new : Session J) → IsSameAccess old mid → IsSameAccess mid new
     → IsSameAccess old new
 same_then old mid new first then = (
@@ -45,7 +45,7 @@ same_then old mid new first then = (
   then.1 ∙ first.1,
 )
 
--- a line that a session has had, after what leaves the rest as it is, or before it
+-- a line was handled, and a step before or after it left everything else the same
 pub had_after : {J : Type 0} (old mid new : Session J) → IsSameAccess old mid → HasHadLine mid new → HasHadLine old new
 had_after old mid new first had = (
   (
@@ -76,7 +76,7 @@ pub adds_more : (count : ℕ) (text old mid new : List ℕ) → AddsEach count t
 adds_more count text old mid new each adds =
     let e : suc count ≡ count + 1 = omega arith in subst (λ n. AddsEach n text old new) e (mid, each, adds)
 
--- what is left of what waited
+-- suffixes of the unsent answers
 pub rest_same : (old new : List ℕ) → new ≡ old → IsRest old new
 rest_same old new same = (0, same)
 

@@ -56,7 +56,7 @@ seated_own seats place before now one Ok Err is value has own =
     is value has own in
     (left.2.0, left.1 ∙ ap Some left.2.1, left.2.2, left.2.3)
 
--- that it is looked at in the next turn changes nothing of what a session was answered
+-- listing a session for the next turn changes nothing of its answers
 pub listed_outbox : {J : Type 0} (after last : Session J) → last ≡ record after { is_listed = true }
     → last.outbox ≡ after.outbox
 listed_outbox {J = J} after last is = ap (λ (s : Session J). s.outbox) is

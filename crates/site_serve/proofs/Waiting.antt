@@ -61,14 +61,14 @@ module _ (may_take first : Bool) (line : List ℕ) (asker : Asker) (old new : Sc
   looks_does look is shown same held = inr (inr (look, is, shown, (same, held)))
 
 module _ {J : Type 0} (asker : Asker) (now : ℕ) (old new : Session J) (read : List ℕ) (before after : Scene) where
-  -- no line of a session is done
+  -- no line of a session is handled
   pub none_does : read ≡ old.inbox → IsSameRight (record old { key = new.key }) new
       → ReadsOn old.channel.mode read new.channel.mode new.inbox → MaySayLong before.answers after.answers
       → after.waiters ≡ before.waiters → after.account ≡ before.account → DoesOne asker now old new before after
   none_does is right reads says same held =
       inr (right, subst (λ r. ReadsOn old.channel.mode r new.channel.mode new.inbox) is reads, says, (same, held))
 
-  -- the next line of a session is done, or none is, as is answered
+  -- the next line of a session is handled, or none is, as the result says
   pub one_does : (size : ℕ) (done : Bool) → due_key old.key (as_nanos old.key_seen) now ≡ None → read ≡ old.inbox
       → HasFirstLf read size
       → MatchBool done ((new.inbox ≡ drop (size + 1) read)
@@ -90,7 +90,7 @@ module _ {J : Type 0} (asker : Asker) (now : ℕ) (old new : Session J) (read : 
       inr ((had.0.0, had.0.1, refl, had.0.3, had.0.4), inl (does.0 ∙ is, had.1), says refl, (does.1, does.2))
 
 module _ {J K : Type 0} (asker : Asker) (now count : ℕ) (old mid new : Session J) (before between after : Group K) where
-  -- after so many steps one more is made
+  -- one more step is made after this many
   pub one_more : DoesSteps asker now count old mid before between
       → DoesOne asker now mid new (scene_of mid.outbox between) (scene_of new.outbox after)
       → DoesSteps asker now (count + 1) old new before after

@@ -25,7 +25,7 @@ has_stamped journal (Some stamp) = has_stamp journal stamp
 abbrev pub IsTakenInto : List Operation → Result (Option Timestamp) DeskFault → Type 0
 IsTakenInto journal held = IfOk held (λ stamp. has_stamped journal stamp ≡ true)
 
--- whatever a crash leaves says an operation of what was stamped
+-- whatever a crash leaves has an operation with the stamp
 abbrev pub IsSaidBy : (List Operation → Type 0) → Option Timestamp → Type 0
 IsSaidBy survives stamp = (ops : List Operation) × survives ops × (has_stamped ops stamp ≡ true)
 
@@ -50,7 +50,7 @@ HoldsBody deed old new (Err fault) = (new ≡ old) × RefusesIntake old deed fau
 abbrev pub HoldsAll : List Operation → Account → Result (Option Timestamp) DeskFault → Type 0
 HoldsAll ops new held = IfOk held (λ stamp. (stamp ≡ None) × IsPartOf ops (record_of new))
 
--- what is asked is held
+-- the operations of a request are held
 abbrev pub HoldsAsk : Ask → Account → Account → Result (Option Timestamp) DeskFault → Type 0
 HoldsAsk (ask.Intake asker draft) old new held = HoldsBody (deed_of draft) old new held
 HoldsAsk (ask.TakeAll asker ops) old new held = HoldsAll ops.items new held
@@ -68,7 +68,7 @@ AddsOwn asker old new = (added : List Waiter) × (new ≡ old ++ added) × All (
 abbrev pub session_at : ℕ → ℕ → Asker
 session_at place number = asker.Session place number
 
--- who asked
+-- the sender of a request
 abbrev pub asker_of : Ask → Asker
 asker_of (ask.Intake asker draft) = asker
 asker_of (ask.TakeAll asker ops) = asker

@@ -1,4 +1,4 @@
--- What a session is answered of what the desk did for it.
+-- The answers that sessions get after a publish, and how a worker's reply changes a session.
 use Rattle.std.specs.Prelude.{◌≡◌, ◌≢◌, ◌⊎◌, ◌↔◌, ◌∷◌, ◌++◌, [], ℕ, IfSome, IsTrue, List, Bool, false, true, Ok, Err, None, Option, Some, Result}
 use Rattle.std.specs.Prelude.{is_some, slice_get}
 use Rattle.std.specs.Option.{option_or}
@@ -23,58 +23,60 @@ use Rattle.site_serve.specs.declared.session_fault.SessionFault.TheVariants.{Lin
 use Rattle.site_shared.specs.declared.fault.DeskFault.{DeskFault}
 use Rattle.site_shared.specs.declared.fault.DeskFault.TheVariants.{NoMemory}
 
--- the stamp is added to what it was answered, where there is one
+-- the line of the stamp, if there is one, is added to the session's answers
 abbrev pub SaysStamp : Option Timestamp → List ℕ → List ℕ → Type 0
 SaysStamp stamp old new = IfSome stamp (λ stamp. (result : Result Bool LineFault) × Adds (stamp_line stamp) (Ok true) old new result)
 
--- the refusal is added to it
+-- the line of the refusal is added to the session's answers
 abbrev pub SaysFault : DeskFault → List ℕ → List ℕ → Type 0
 SaysFault fault old new = (result : Result Bool LineFault) × Adds (refusal_line (port_fault_of fault)) (Ok true) old new result
 
--- what was held is added: its stamp, or that memory was refused; or why nothing was held
+-- the answer for what was held is added: its stamp, or that memory was refused; or the fault, if nothing was held
 abbrev pub SaysHeld : Result (Option Timestamp) DeskFault → List ℕ → List ℕ → Type 0
 SaysHeld (Ok stamp) old new = SaysStamp stamp old new ⊎ SaysFault (NoMemory 0) old new
 SaysHeld (Err fault) old new = SaysFault fault old new
 
--- how a session ends once it was answered so: as it was to end before, or by this answer, where that ends it
+-- the ending of a session after an answer with this result: its earlier ending, if it has one, else that of the answer,
+-- if the answer ends the session
 abbrev pub ending_after : Result Bool LineFault → Option (Result (Unit {0}) SessionFault) → Option (Result (Unit {0}) SessionFault)
 ending_after (Ok true) ending = ending
 ending_after (Ok false) ending = option_or ending (Some (Ok tt))
 ending_after (Err fault) ending = option_or ending (Some (Err (Line fault)))
 
--- a look's text is added, and the session goes on or ends by that; or memory is refused for the text, and it ends
+-- the text of a look is added, and the session goes on or ends by its result; or memory is refused for the text, and
+-- the session ends
 abbrev pub TakesText : {J : Type 0} → List ℕ → Result Bool LineFault → Session J → Session J → Type 0
 TakesText text answered old new =
     ((new.outbox ≡ old.outbox ++ text) × (new.ending ≡ ending_after answered old.ending))
     ⊎ ((new.outbox ≡ old.outbox) × (is_some new.ending ≡ true))
 
--- the bytes of a session are sealed from now on; or memory is refused for the answer to that, and it ends, and nothing
--- more is sent
+-- the session's bytes are sealed from now on; or memory is refused for the answer to its greeting, and it ends, and
+-- nothing more is sent
 abbrev pub IsSealedBy : {J : Type 0} → Wiring → Session J → Session J → Type 0
 IsSealedBy wire old new =
     ((new.channel.mode ≡ Sealed wire) × (new.outbox ≡ old.outbox))
     ⊎ ((new.channel.mode ≡ Shut) × (new.outbox ≡ []) × (is_some new.ending ≡ true))
 
--- a session is let in: its bytes are sealed from now on, and it may have bodies taken in where its key may feed
+-- a session is admitted: its bytes are sealed from now on, and it may send bodies if its key has the role `feed`
 abbrev pub IsLetIn : {J : Type 0} → Role → Wiring → Session J → Session J → Type 0
 IsLetIn role wire old new =
     IsSameRight (record old { may_take = new.may_take; key_seen = new.key_seen }) new
     × (IsTrue new.may_take ↔ role ≡ Feed) × IsSealedBy wire old new
 
--- a session isn't let in: it ends, and its bytes go through what they went through, or nothing more is sent
+-- a session isn't admitted: it ends, and its channel stays as it was, or nothing more is sent
 abbrev pub IsKeptOut : {J : Type 0} → Session J → Session J → Type 0
 IsKeptOut old new =
     IsSameRight old new × (is_some new.ending ≡ true)
     × (((new.channel.mode ≡ old.channel.mode) × (new.outbox ≡ old.outbox))
     ⊎ ((new.channel.mode ≡ Shut) × (new.outbox ≡ [])))
 
--- a session has the role that its key is found to have, and ends where the key is no more
+-- a session takes the present role of its key, and ends if there is none
 abbrev pub HasRole : {J : Type 0} → Option Role → Session J → Session J → Type 0
 HasRole role old new =
     IsSameAccess (record old { may_take = new.may_take; key_seen = new.key_seen }) new × (new.outbox ≡ old.outbox)
     × (IsTrue new.may_take ↔ role ≡ Some Feed) × (role ≡ None → is_some new.ending ≡ true)
 
--- what becomes of a session where a worker's work is done and it doesn't leave
+-- how a session goes on after a worker's reply
 abbrev pub GoesOnWith : {J : Type 0} → Work → Session J → Session J → Type 0
 GoesOnWith (Looked text answered) old new = IsSameAccess old new × TakesText text.items answered old new
 GoesOnWith (Admitted admitted) old new = IsLetIn admitted.role admitted.wire old new
@@ -83,14 +85,13 @@ GoesOnWith (KeyLookedAt role) old new = HasRole role old new
 GoesOnWith Entered old new = IsSameAccess old new × (new.outbox ≡ old.outbox)
 GoesOnWith Left old new = IsSameAccess old new × (new.outbox ≡ old.outbox)
 
--- what is at its place then: nothing where it leaves, else the session, which goes on with the work
+-- its place afterwards: empty if it has left, else it has the session after the reply
 abbrev pub IsSeatAfter : {J : Type 0} → Work → Session J → Option (Session J) → Type 0
 IsSeatAfter Left session seat = seat ≡ None
 IsSeatAfter work session seat = (after : _) × (seat ≡ Some after) × GoesOnWith work session after
 
 module _ {S : Type 0} (number_of : S → ℕ) (outbox_of : S → List ℕ) where
-  -- of the sessions at their places the one of this number at this place is answered, if it is still there, and no
-  -- other
+  -- the session with this number at this place is answered, if it is still there; no other session is
   pub record IsSeatAnswered (place number : ℕ) (Says : List ℕ → List ℕ → Type 0) (old new : List (Option S)) : Type 0 where
     pub others : (other : ℕ) → other ≢ place → slice_get new other ≡ slice_get old other
     pub strangers : (session : S) → slice_get old place ≡ Some (Some session) → number_of session ≢ number
@@ -98,18 +99,18 @@ module _ {S : Type 0} (number_of : S → ℕ) (outbox_of : S → List ℕ) where
     pub own : (session : S) → slice_get old place ≡ Some (Some session) → number_of session ≡ number
         → (after : S) × (slice_get new place ≡ Some (Some after)) × Says (outbox_of session) (outbox_of after)
 
-  -- who asked is answered: a session at its place, or a thread that pulls, by its channel
+  -- the sender of a request is answered: a session at its place, or a puller by its channel
   abbrev pub IsAskerAnswered : Asker → (List ℕ → List ℕ → Type 0) → List (Option S) → List (Option S) → Type 0
   IsAskerAnswered (asker.Session place number) Says old new = IsSeatAnswered place number Says old new
   IsAskerAnswered (asker.Puller puller) Says old new = new ≡ old
 
-  -- one after the other is answered what was held for it
+  -- the waiters are answered one after the other, each for what was held for it
   abbrev pub EachIsAnswered : List Waiter → List (Option S) → List (Option S) → Type 0
   EachIsAnswered [] old new = new ≡ old
   EachIsAnswered (waiter ∷ waiters) old new =
       (mid : List (Option S)) × IsAskerAnswered waiter.asker (SaysHeld waiter.held) old mid
       × EachIsAnswered waiters mid new
 
--- the same of two lists of places
+-- the same, with the two lists of places as the first arguments
 abbrev pub AreAnswered : {S : Type 0} → List (Option S) → List (Option S) → (S → ℕ) → (S → List ℕ) → List Waiter → Type 0
 AreAnswered old new number_of outbox_of waiters = EachIsAnswered number_of outbox_of waiters old new

@@ -1,5 +1,5 @@
--- What the bytes of a connection go through before they are lines of its session, and what is sent of the answers to
--- these: nothing, or a seal.
+-- The channel of a connection, plain or sealed: which bytes become lines of its session, and what is sent of the
+-- answers.
 use Rattle.std.specs.Prelude.{◌≡◌, ◌⊎◌, ℕ, List, [], ◌∷◌, ◌++◌, None, Some, Result, Ok, Err, drop}
 use Rattle.gossip_line.specs.declared.fault.LineFault.TheVariants.{NoMemory}
 use Rattle.line_reader.specs.Lines.{HasNoLf}
@@ -12,7 +12,7 @@ use Rattle.site_serve.specs.declared.channel.ChannelMode.TheVariants.{Locked, Pl
 use Rattle.site_serve.specs.declared.session_fault.SessionFault.{SessionFault}
 use Rattle.site_serve.specs.declared.session_fault.SessionFault.TheVariants.{BadSeal, Line}
 
--- how a session fails whose lines can't be sealed or opened
+-- the fault of a session whose lines can't be sealed or opened
 abbrev pub seal_fault : WireFault → SessionFault
 seal_fault wire.NoMemory = Line NoMemory
 seal_fault fault = BadSeal
@@ -35,7 +35,7 @@ TakesCame (Sealed w) came old new result after =
     → (new ≡ old) × (opened ≡ w) × (result ≡ Err (seal_fault fault)))
 TakesCame Shut came old new result after = (new ≡ old) × (after ≡ Shut)
 
--- nothing came, or something that is taken so
+-- nothing came, or some bytes came and were taken
 abbrev pub ReadsOn : ChannelMode → List ℕ → ChannelMode → List ℕ → Type 0
 ReadsOn mode old after new =
     ((new ≡ old) × (after ≡ mode))
@@ -53,7 +53,7 @@ abbrev pub outgoing_of : List ℕ → ChannelMode → List ℕ → List ℕ
 outgoing_of [] mode answers = sends_of mode answers
 outgoing_of (byte ∷ first) mode answers = byte ∷ first
 
--- so many bytes of what is sent next were sent
+-- this many of the bytes to send next were sent
 abbrev pub PassesSent : ℕ → ChannelMode → List ℕ → ChannelMode → List ℕ → Type 0
 PassesSent count Plain answers after left = (left ≡ drop count answers) × (after ≡ Plain)
 PassesSent count (Sealed w) answers after left =

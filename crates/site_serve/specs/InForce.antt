@@ -1,4 +1,4 @@
--- Which gate a site judges under, and what another one takes the place of.
+-- The gate in force at a site, and how another one replaces it.
 use Rattle.std.specs.Prelude.{◌≡◌, ◌⊎◌, ◌<◌, ◌+◌, ◌-◌, ◌^◌, ℕ, min, Option, None, Some}
 use Rattle.std.specs.Arc.{arc_value}
 use Rattle.gate_rules.specs.Rules.{GateRules}

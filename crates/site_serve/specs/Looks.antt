@@ -1,4 +1,4 @@
--- What a worker answers to a look of a session: at one moment, which has all that the session has seen.
+-- What a worker answers to a look of a session: the state at one moment that includes everything the session has seen.
 use Rattle.std.specs.Prelude.{◌≡◌, ◌⊎◌, Bool, true, List, [], ℕ, Option, Result, Ok}
 use Rattle.gate_rules.specs.Rules.{GateRules}
 use Rattle.gossip_line.specs.Steps.{call_of}
@@ -19,12 +19,12 @@ use Rattle.site_shared.specs.Accounts.{GoesOn, Outlook}
 use Rattle.site_shared.specs.Publishes.{arrive}
 use Rattle.std.specs.Option.{ForSome}
 
--- the work is a look that is answered so
+-- the work is a look with this answer
 abbrev pub IsLooked : (List ℕ → Result Bool LineFault → Type 0) → Work → Type 0
 IsLooked Shows (Looked text answered) = Shows text.items answered
 IsLooked Shows work = ⊥
 
--- what has to be of a task that is a look
+-- a condition on tasks that are looks; true of all other tasks
 abbrev pub IfLook : Task → (Look → Type 0) → Type 0
 IfLook (task.Look look) P = P look
 IfLook other P = Unit {0}

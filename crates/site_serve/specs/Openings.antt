@@ -1,5 +1,5 @@
--- What a ledger is from the opening of its site on, whatever a site does with it: after whatever its keeper had at
--- first comes just what the site published since, and survives.
+-- The invariant of a ledger from the opening of its site on: its keeper has what it had at first, then exactly what the
+-- site has published since, and all of it survives a crash.
 use Rattle.std.specs.Prelude.{◌≡◌, ◌<◌, ◌∷◌, ◌++◌, IfOk, List, Result, length}
 use Rattle.logbook.specs.Pages.{Book}
 use Rattle.replica_core.specs.Journal.{all_arrived}

@@ -1,14 +1,15 @@
--- What a site is run with, as its setup says.
+-- The options that a site runs with, from its setup.
 use Rattle.std.specs.Prelude.{◌≡◌, ◌*◌, ℕ, Option, None, Some, if◌then◌else◌, nat_lt, option_map}
 use Rattle.std.specs.Duration.{as_nanos}
 use Rattle.site_serve.specs.declared.common.SiteOptions.{SiteOptions}
 use Rattle.site_serve.specs.declared.setup.Setup.{Setup}
 
--- how many nanoseconds a session may send no whole line, by its milliseconds: without end where these are 0
+-- for how many nanoseconds a session may send no whole line, given the milliseconds of the setup; no limit if these are
+-- 0
 abbrev pub idle_nanos : ℕ → Option ℕ
 idle_nanos milliseconds = if nat_lt 0 milliseconds then Some (milliseconds * 1000000) else None
 
--- each option is that of the setup; the guard is of its site, with the sites that it lists
+-- each option is that of the setup; the guard has the number of the site and the sites that it lists
 abbrev pub RunsWith : Setup → SiteOptions → Type 0
 RunsWith setup options =
     (options.guard ≡ record { own = setup.site; sites = setup.sites })

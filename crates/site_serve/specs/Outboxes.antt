@@ -1,4 +1,4 @@
--- What a session was answered and isn't sent yet: a text is added, or memory is refused for it.
+-- The output buffer of a session: a text is added, or memory is refused for it.
 use Rattle.std.specs.Prelude.{◌≡◌, ◌⊎◌, ◌<◌, Bool, true, ℕ, suc, zero, List, ◌++◌, Err, Ok, Result, drop, length, take}
 use Rattle.gossip_line.specs.Texts.{long_line}
 use Rattle.gossip_line.specs.declared.fault.LineFault.{LineFault}
@@ -10,12 +10,12 @@ Adds text wanted old new result =
     ((result ≡ wanted) × (new ≡ old ++ text))
     ⊎ ((result ≡ Err NoMemory) × ((count : ℕ) × (count < length text) × (new ≡ old ++ take count text)))
 
--- where bytes in memory can't take more, memory was refused
+-- a failed write to memory is reported as refused memory
 abbrev pub IsRefusingMemory : {T : Type 0} → Result T LineFault → Result T LineFault → Type 0
 IsRefusingMemory (Err WriteFault) result = result ≡ Err NoMemory
 IsRefusingMemory said result = result ≡ said
 
--- nothing is answered, but for a line that is too long
+-- nothing is answered, except that a line is too long
 abbrev pub MaySayLong : List ℕ → List ℕ → Type 0
 MaySayLong old new = (new ≡ old) ⊎ ((result : Result (Unit {0}) LineFault) × Adds long_line (Err LongLine) old new result)
 
@@ -25,6 +25,6 @@ AddsEach zero text old new = new ≡ old
 AddsEach (suc count) text old new =
     (mid : List ℕ) × AddsEach count text old mid × ((result : Result Bool LineFault) × Adds text (Ok true) mid new result)
 
--- what waits is the end of what waited: nothing is added
+-- the unsent bytes are a suffix of those before: nothing is added
 abbrev pub IsRest : List ℕ → List ℕ → Type 0
 IsRest old new = (count : ℕ) × (new ≡ drop count old)

@@ -11,7 +11,7 @@ use Rattle.review_ops.specs.Operation.{Operation}
 use Rattle.site_shared.specs.Publishes.{arrive}
 use Rattle.state_core.specs.State.{state_of}
 
--- the page answers the route by a record and the verdicts on just that, with these figures of the site
+-- the page answers the route by a record, the verdicts on that record, and these facts of the site
 abbrev pub IsPageOf : GateRules → Facts → List Operation → Judged → Route → Page → Type 0
 IsPageOf gate facts journal judged route page =
     IsPageAnswer gate (state_of journal) (length journal) judged facts route page
@@ -26,7 +26,7 @@ IsOfMoment gate facts seen route page =
 abbrev pub ShowsMoment : GateRules → Facts → List (List Operation) → Route → Page → Type 0
 ShowsMoment gate facts seen route page = IsOfMoment gate facts seen route page ⊎ (page.status ≡ Unavailable)
 
--- the same, with some figures of the site; or the page is the same whatever the site has
+-- the same, with some facts of the site; or the page doesn't depend on the site
 abbrev pub ShowsSite : GateRules → List (List Operation) → Route → Page → Type 0
 ShowsSite gate seen route page =
     ((facts : Facts) × IsOfMoment gate facts seen route page) ⊎ (IsSamePage route page ⊎ (page.status ≡ Unavailable))

@@ -21,13 +21,13 @@ use Rattle.site_shared.specs.declared.fault.DeskFault.{DeskFault}
 use Rattle.site_shared.specs.declared.fault.DeskFault.TheVariants as desk
 use Rattle.state_core.specs.State.{state_of}
 
--- how a session is answered what the desk refuses
+-- the fault of a session's answer for a fault of the desk
 abbrev pub port_fault_of : DeskFault → PortFault
 port_fault_of desk.ClockSpent = port.ClockSpent
 port_fault_of (desk.BadBody cause) = port.BadBody cause
 port_fault_of (desk.NoMemory count) = port.NoMemory
 
--- what is answered at a moment at which the window has seen so much
+-- the reply at a moment at which the window has seen these publishes
 abbrev pub SaysAtMoment : GateRules → List (List Operation) → Call → Reply → Type 0
 SaysAtMoment gate seen (lacks front) (lacked ops more) =
     (all : List Operation) × IsMissing (arrive seen) front all × (ops ≡ take 256 all) × (more ≡ nat_lt 256 (length all))

@@ -35,7 +35,8 @@ pub record PullsAllOf (shown : List (List Operation)) (guard : Guard) (before af
   pub gate : GateRules
   pub answered : SaysAtMoment gate shown (lacks last.front) (lacked (ops_in last.lines) last.more)
 
--- a site that had this record pulled, from another one that showed these publishes, and sees this in the end
+-- one of the two sites: its record before the pull, the publishes that the other one showed, and what it sees in the
+-- end
 pub record Side : Type 0 where
   pub had : List Operation
   pub shown : List (List Operation)
@@ -47,7 +48,7 @@ pub record Side : Type 0 where
   pub goes_on : GoesOn after.port end
   pub kept : IsPartOf had (record_seen end)
 
--- what both had
+-- the operations that either had
 abbrev pub union : Side → Side → List Operation
 union one other = one.had ++ other.had
 

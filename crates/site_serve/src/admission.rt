@@ -1,4 +1,4 @@
-//! Admits connections by their keys.
+//! Authenticates connections by their keys.
 
 use super::channel::Credential;
 use super::errors::Errors;
@@ -11,8 +11,8 @@ use sealed_link::{Admitted, admit, refusal_line};
 use std::alloc::Global;
 use std::sync::Wait;
 
-/// What connections are admitted by, and dialed: the reader of the file of keys, the file's name, if one is named, and
-/// the number of the site.
+/// What connections are authenticated with, as server and as client: the reader of the file of keys, the name of that
+/// file, if one is given, and the number of the site.
 #[derive(Drop)]
 pub struct Admission<'a, T: KeyReader> {
     pub reader: &'a T,
@@ -21,8 +21,8 @@ pub struct Admission<'a, T: KeyReader> {
 }
 
 impl<T: KeyReader> Admission<'_, T> {
-    /// Lets a connection in if a key of the file is what it asks that by. The file is read at each connection, so that
-    /// a key that is withdrawn lets nobody in any more. A file that can't be read is reported, and lets nobody in.
+    /// Admits a connection if its credential is a key of the file. The file is read for each connection, so that a
+    /// revoked key admits nobody. If the file can't be read, that is reported, and the connection is refused.
     pub fn answer<R: Wait, E: Drain>(
         &self,
         rt: &R,
@@ -38,8 +38,8 @@ impl<T: KeyReader> Admission<'_, T> {
         Work::Barred(refusal_line(alloc).unwrap_or(Vec::new(alloc)))
     }
 
-    /// What the key of an ID is for now; none where no key of the file has that ID any more. A file that can't be read
-    /// is reported, and has none.
+    /// The present role of the key with an ID; `None` if the file no longer has that key, or can't be read, which is
+    /// reported.
     pub fn role_now<R: Wait, E: Drain>(
         &self,
         rt: &R,
@@ -64,7 +64,7 @@ impl<T: KeyReader> Admission<'_, T> {
         keys.secret_of(name.as_bytes())
     }
 
-    /// Who is let in, if a key of the file is what is asked by.
+    /// The admitted connection, if the credential is a key of the file.
     fn admitted(
         &self,
         alloc: Global,

@@ -1,4 +1,4 @@
-//! What a site's desk is asked, and what it answers.
+//! Requests to the desk of a site, and its answers.
 
 ghost use Rattle.std.specs.Prelude.{◌≡◌, true};
 ghost use Rattle.std.specs.Arc.{arc_value};
@@ -12,7 +12,7 @@ use site_shared::{BrandedReceipt, DeskFault, Naming};
 use std::alloc::Global;
 use std::sync::Arc;
 
-/// Whom the desk answers.
+/// Who made a request.
 #[derive(Clone, Copy)]
 pub enum Asker {
     /// The session of this number, at its place.
@@ -21,7 +21,7 @@ pub enum Asker {
     Puller(usize),
 }
 
-/// What the desk is asked, and by whom.
+/// A request to the desk, and who made it.
 #[derive(Drop)]
 pub enum Ask {
     /// To stamp a body and take it in.
@@ -30,8 +30,8 @@ pub enum Ask {
     TakeAll { asker: Asker, ops: Vec<Op> },
 }
 
-/// What was published: the receipt that threads share, and the stamp of a body that was taken in. It can't be made
-/// before the publish: what was stamped is among what the receipt has seen published.
+/// The answer after a publish: its receipt, which threads share, and the stamp of the body, if one was taken in. It
+/// can't be made before the publish: the stamped operation is among those that the receipt covers.
 #[derive(Drop)]
 pub struct Done<J: Naming> {
     pub receipt: Arc<BrandedReceipt<J>, Global>,
@@ -39,7 +39,7 @@ pub struct Done<J: Naming> {
     pub ghost shown: { has_stamped (arrive (arc_value receipt).published) stamp ≡ true },
 }
 
-/// What was published, or why nothing was.
+/// What was published, or why the request failed.
 pub type Answer<J> = Result<Done<J>, DeskFault>;
 
 /// The link of a puller to the desk: its number, and its ends of the channels to the desk and back.

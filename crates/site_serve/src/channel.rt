@@ -1,4 +1,4 @@
-//! What the bytes of a connection go through before they are lines of its session: nothing, or a seal.
+//! The channel between the bytes of a connection and the lines of its session: plain or sealed.
 
 ghost use Rattle.std.specs.Prelude.{◌≡◌, ◌≤◌, ◌++◌, [], Err, MatchResult, Ok, OnOk, if◌then◌else◌, length};
 ghost use Rattle.gossip_line.specs.declared.fault.LineFault.TheVariants.{NoMemory};
@@ -24,37 +24,37 @@ const GREETING_LIMIT: usize = 256;
 pub(super) enum ChannelMode {
     /// They are its session's lines.
     Plain,
-    /// None is its session's yet: its first line has to name a key.
+    /// The connection isn't authenticated yet: its first line has to name a key.
     Locked,
-    /// Its session's lines are sealed in them.
+    /// They are its session's lines, sealed.
     Sealed(Wire),
     /// Nothing more is sent.
     Shut,
 }
 
-/// What a connection asks to be admitted by.
+/// The credential in the first line of a connection.
 #[derive(Clone, Copy, PartialEq)]
 pub(super) enum Credential {
-    /// Nothing: its line isn't whole yet, or it needn't ask, or was admitted.
+    /// None: the line isn't whole yet, or the channel isn't locked.
     None,
     /// A key.
     Key(Greeting),
-    /// Something else.
+    /// A first line that names no key, is too long, or has bytes after it.
     Other,
 }
 
-/// The bytes of a connection that aren't its session's own.
+/// The channel of a connection, with its bytes that aren't part of the session.
 #[derive(Drop)]
 pub(super) struct Channel {
     mode: ChannelMode,
-    /// What was read before it was let in.
+    /// What was read before the connection was admitted.
     greeting: Vec<u8>,
-    /// What is sent as it is, before all else.
+    /// The answer to the first line, which is sent unsealed, before all else.
     first: Outbox,
 }
 
 impl Channel {
-    /// A connection of a session that anybody may have, or one that has to be let in by a key.
+    /// A plain channel, or one that is locked until a key admits the connection.
     pub(super) fn new(alloc: Global, is_locked: bool) -> Channel
         ensures mode { result.mode ≡ (if is_locked then Locked else Plain) }
         ensures first { result.first ≡ [] }
@@ -66,7 +66,7 @@ impl Channel {
         }
     }
 
-    /// Takes what was read: what of it is its session's comes to what was read of that.
+    /// Takes bytes that were read, and adds to the inbox those that are the session's, opened if they are sealed.
     pub(super) fn take(&mut self, came: &[u8], inbox: &mut Inbox) -> Result<(), SessionFault>
         ensures { TakesCame self.old.mode came.now inbox.old inbox.new result self.new.mode }
     {
@@ -78,7 +78,7 @@ impl Channel {
         }
     }
 
-    /// What it asks to be admitted by.
+    /// The credential of the connection, once its first line is whole.
     pub(super) fn credential(&self) -> Credential {
         if !matches!(&self.mode, ChannelMode::Locked) {
             return Credential::None;
@@ -90,7 +90,7 @@ impl Channel {
         }
     }
 
-    /// Is let in, and answered so: its session's lines are sealed from now on.
+    /// Admits the connection, and sends the answer: from now on its lines are sealed.
     pub(super) fn let_in(&mut self, answer: Vec<u8>, wire: Wire) -> Result<(), SessionFault>
         ensures mode { self.new.mode ≡ Sealed wire }
         ensures first { OnOk result (self.new.first ≡ self.old.first ++ answer.items) }
@@ -99,7 +99,7 @@ impl Channel {
         kept(self.first.add(answer))
     }
 
-    /// Is answered that it isn't let in.
+    /// Sends the answer that the connection isn't admitted.
     pub(super) fn keep_out(&mut self, answer: Vec<u8>) -> Result<(), SessionFault>
         ensures mode { self.new.mode ≡ self.old.mode }
         ensures first { OnOk result (self.new.first ≡ self.old.first ++ answer.items) }
@@ -107,7 +107,7 @@ impl Channel {
         kept(self.first.add(answer))
     }
 
-    /// Seals more of what its session was answered, where all that was sealed is sent.
+    /// Seals more of the session's answers, if all sealed bytes are sent.
     pub(super) fn seal(&mut self, outbox: &mut Outbox) -> Result<(), SessionFault>
         ensures more { SealsMore
             (sends_of self.old.mode []) self.old.mode outbox.old self.new.mode outbox.new result }
@@ -119,7 +119,7 @@ impl Channel {
         }
     }
 
-    /// What is sent next, where its session was answered this.
+    /// The bytes to send next, given the session's answers.
     pub(super) fn next<'a>(&'a self, outbox: &'a Outbox) -> &'a [u8]
         ensures { result.now ≡ outgoing_of self.now.first self.now.mode outbox.now }
     {
@@ -162,7 +162,7 @@ impl Channel {
         matches!(&self.mode, ChannelMode::Shut)
     }
 
-    /// Whether all is sent but what its session was answered and isn't sealed.
+    /// Whether everything is sent, except answers that aren't sealed yet.
     pub(super) fn is_sent(&self) -> bool {
         let is_sealed_sent = match &self.mode {
             ChannelMode::Sealed(wire) => wire.waiting().is_empty(),
@@ -172,7 +172,7 @@ impl Channel {
     }
 }
 
-/// How the bytes of a connection become lines at first.
+/// The mode of a new channel.
 fn first_mode(is_locked: bool) -> ChannelMode
     ensures { result ≡ (if is_locked then Locked else Plain) }
 {
@@ -183,7 +183,7 @@ fn first_mode(is_locked: bool) -> ChannelMode
     }
 }
 
-/// What a line says that asks to be let in.
+/// The credential in a first line.
 fn greeting_of(line: &[u8]) -> Credential {
     match Greeting::read(line) {
         Some(greeting) => Credential::Key(greeting),
@@ -191,7 +191,7 @@ fn greeting_of(line: &[u8]) -> Credential {
     }
 }
 
-/// How a session fails whose lines can't be opened.
+/// The session fault of lines that can't be opened.
 fn opened(came: Result<(), WireFault>) -> Result<(), SessionFault>
     ensures { result ≡ seal_result came }
 {
@@ -201,7 +201,7 @@ fn opened(came: Result<(), WireFault>) -> Result<(), SessionFault>
     }
 }
 
-/// Where memory is refused the session fails so.
+/// The session fault of refused memory.
 fn kept(added: Result<(), AllocError>) -> Result<(), SessionFault>
     ensures { MatchResult added (λ done. result ≡ Ok done) (λ error. result ≡ Err (Line NoMemory)) }
 {
@@ -211,7 +211,7 @@ fn kept(added: Result<(), AllocError>) -> Result<(), SessionFault>
     }
 }
 
-/// How a session fails where its lines can't be sealed or opened.
+/// The session fault of a wire fault.
 fn fault_of(fault: WireFault) -> SessionFault
     ensures { result ≡ seal_fault fault }
 {
@@ -221,7 +221,7 @@ fn fault_of(fault: WireFault) -> SessionFault
     }
 }
 
-/// Seals what a session was answered, as much as is sent at once.
+/// Seals a session's answers, as many bytes as are sent at once.
 fn sealed(wire: &mut Wire, outbox: &mut Outbox) -> Result<(), SessionFault>
     requires { length wire.old.waiting ≡ 0 }
     ensures { SealsMore [] (Sealed wire.old) outbox.old (Sealed wire.new) outbox.new result }

@@ -29,7 +29,7 @@ pub struct Left {
     pub is_start_taken: bool,
 }
 
-/// A site that wasn't run.
+/// The result of a site that couldn't be run.
 pub fn unserved<K: Keeps>(keeper: K, fault: ServeFault) -> Closed<K>
     ensures keeps { (begun : List Operation) → HasKept K.survives (K.holds keeper) begun result.keeper result.served }
     ensures fault { result.served ≡ Err fault }
@@ -41,7 +41,7 @@ pub fn unserved<K: Keeps>(keeper: K, fault: ServeFault) -> Closed<K>
     }
 }
 
-/// What a site leaves that its threads left so, and that showed this record last.
+/// What a site leaves, from how its threads ended and the record that it published last.
 pub fn served_of(left: Result<Left, ServeFault>, shown: Arc<Replica>) -> Result<Served, ServeFault>
     ensures shown { IfOk result (λ served. served.replica ≡ arc_value shown) }
     ensures ended { IfOk result (λ served. IfOk left
@@ -66,7 +66,7 @@ pub fn served_of(left: Result<Left, ServeFault>, shown: Arc<Replica>) -> Result<
     }
 }
 
-/// The record itself, or a copy where somebody else has it, too.
+/// The record itself, or a copy if it is still shared.
 fn unshared(shown: Arc<Replica>) -> Result<Replica, NoMemory>
     ensures { IfOk result (λ replica. replica ≡ arc_value shown) }
 {

@@ -1,4 +1,4 @@
-//! What is held for those who ask the desk of a site, and how they are answered once that is published.
+//! Holds the operations of requests to the desk, and answers the requests once these are published.
 
 ghost use Rattle.std.specs.Prelude.{◌≡◌, ◌∷◌, [], All, Err, IfErr, IfOk, IsOk, Ok, OnOk, true};
 ghost use Rattle.std.specs.Arc.{arc_value};
@@ -20,7 +20,7 @@ use site_shared::{BrandedReceipt, DeskFault, Naming};
 use std::alloc::Global;
 use std::sync::{Arc, Wait};
 
-/// Who waits for an answer, and what was held for that, or why nothing was.
+/// Who waits for an answer, and the stamp that was held for it, if any, or the fault.
 #[derive(Clone, Copy)]
 pub struct Waiter {
     pub asker: Asker,
@@ -30,7 +30,7 @@ pub struct Waiter {
 /// The receipt of a publish that threads share, or why there was none.
 pub type Published<J> = Result<Arc<BrandedReceipt<J>, Global>, DeskFault>;
 
-/// Holds what is asked.
+/// Holds the operations of a request.
 pub(super) fn hold_ask<J: Opening, K: Keeps>(ledger: &mut OwnLedger<J, K>, ask: Ask) -> Waiter
     ensures asker { result.asker ≡ asker_of ask }
     ensures asked { HoldsAsk ask ledger.old.account ledger.new.account result.held }
@@ -103,7 +103,7 @@ pub(super) fn reply_all<R: Wait, J: Naming>(
     }
 }
 
-/// Answers one who waits.
+/// Answers one waiter.
 fn reply_one<R: Wait, J: Naming>(
     rt: &R,
     alloc: Global,

@@ -1,4 +1,4 @@
-//! What the threads of a site say on its error output.
+//! The lines that a site's threads write to standard error.
 
 ghost use Rattle.std.specs.Prelude.{◌≡◌, ◌++◌, IfOk, codes, decimal, string_bytes};
 ghost use Rattle.refusal_line.specs.Line.{line_of};
@@ -17,7 +17,7 @@ use site_address::PeerAddress;
 use std::alloc::{AllocError, Global};
 use std::sync::{Mutex, Wait};
 
-/// The error output of a site, which its threads share. A line that it doesn't take is lost, and so is one for which
+/// The standard error of a site, which its threads share. A line that can't be written is lost, and so is one for which
 /// memory is refused.
 #[derive(Drop)]
 pub struct Errors<E: Drain> {
@@ -73,21 +73,21 @@ impl<E: Drain> Errors<E> {
         }
     }
 
-    /// Writes that a peer says again and again that more is left, and hands over nothing new.
+    /// Writes that the pulls from a peer don't end: it reports that more is left, and sends nothing new.
     pub fn has_no_end(&self, rt: &impl Wait, alloc: Global, peer: PeerAddress<'_>) {
         if let Ok(line) = line_of_peer(alloc, 10, "NoEnd", peer) {
             self.write(rt, line.as_str());
         }
     }
 
-    /// Writes that a pull from a peer ended well, after one that didn't.
+    /// Writes that a pull from a peer succeeded again.
     pub fn is_back(&self, rt: &impl Wait, alloc: Global, peer: PeerAddress<'_>) {
         if let Ok(line) = line_of_peer(alloc, 0, "Back", peer) {
             self.write(rt, line.as_str());
         }
     }
 
-    /// Writes that a peer doesn't answer as who has the key.
+    /// Writes that the handshake with a peer failed.
     pub fn not_dialed(
         &self,
         rt: &impl Wait,
@@ -101,7 +101,7 @@ impl<E: Drain> Errors<E> {
         }
     }
 
-    /// Writes that the key of a peer isn't there to be used.
+    /// Writes that the key for a peer can't be used.
     pub fn no_key_of(&self, rt: &impl Wait, alloc: Global, fault: KeyFault, peer: PeerAddress<'_>) {
         let mut name = String::new(alloc);
         if peer.write(&mut name).is_ok() {
@@ -109,7 +109,7 @@ impl<E: Drain> Errors<E> {
         }
     }
 
-    /// Writes that the file of keys isn't there to be used, or a key of it, with the name of the file or of a peer.
+    /// Writes that the file of keys, or a key of it, can't be used, with the name of the file or of a peer.
     pub fn no_keys(&self, rt: &impl Wait, alloc: Global, fault: KeyFault, name: &str) {
         if let Ok(line) = keys_line(alloc, fault, name) {
             self.write(rt, line.as_str());
@@ -151,7 +151,7 @@ fn line_about(
     refusal_line(alloc, part, number, words.as_str())
 }
 
-/// The line of what is the matter with a pull from a peer, with the peer's address.
+/// The line about a pull from a peer, with the peer's address.
 fn line_of_peer(
     alloc: Global,
     number: u8,
@@ -166,7 +166,7 @@ fn line_of_peer(
     refusal_line(alloc, Part::Peer, number, words.as_str())
 }
 
-/// The number and the name under which it is reported that a peer doesn't answer as who has the key.
+/// The number and the name of a failed handshake with a peer.
 fn words_of(fault: DialFault) -> (u8, &'static str) {
     match fault {
         DialFault::ReadFault => (3, "ReadFault"),

@@ -1,4 +1,4 @@
-//! Prints what a site has to say of its verdicts whenever they change.
+//! Prints the reports of a site, or their changes, whenever its verdicts change.
 
 ghost use Rattle.std.specs.Prelude.{◌≡◌, [], IfOk};
 ghost use Rattle.std.specs.List.Sorted.{IsStrictlySortedBy};
@@ -43,16 +43,16 @@ const LEAST_REST: u32 = 4;
 /// The longest rest in seconds.
 const LONGEST_REST_S: u64 = 60;
 
-/// What the printing of reports leaves.
+/// How the printing of reports ended.
 #[derive(Drop)]
 pub struct Printed {
-    /// Whether all that was to be printed was written.
+    /// Whether everything was written.
     pub written: bool,
-    /// Why the last look showed nothing, if it didn't.
+    /// Why the last look failed, if it did.
     pub fault: Option<ServeFault>,
 }
 
-/// What is shown of a look.
+/// What a look gives to print.
 #[derive(Drop)]
 struct Shown {
     /// What is to be printed.
@@ -64,8 +64,8 @@ struct Shown {
 /// Prints the report of what the window shows, and each one that differs from the last, or what changed from one to the
 /// next, until nothing new comes any more. After each it rests, unless another gate is put in force, under which the
 /// next one is made at once. The verdicts are kept from one look to the next, and brought up to date with what the
-/// window shows; those under another gate are made anew. Once the output has failed nothing more is printed, which is
-/// said on the error output.
+/// window shows; those under another gate are made anew. Once the output has failed, nothing more is printed, and that
+/// is reported on standard error.
 pub fn print_reports<R: Wait + Clock, W: Drain + Drop, E: Drain, J: Naming>(
     rt: &R,
     alloc: Global,
@@ -116,7 +116,7 @@ struct Printing<'a, W: Drop, J: Naming> {
 }
 
 impl<W: Drain + Drop, J: Naming> Printing<'_, W, J> {
-    /// Prints what is shown now, where that is news. Answers how long to rest then.
+    /// Prints what is shown now, if that is new. Returns how long to rest afterwards.
     fn print_next<R: Wait + Clock, E: Drain>(&mut self, rt: &R, errors: &Errors<E>) -> Duration {
         self.ruling.follow(rt, &mut self.kept);
         let begun = Instant::now(rt);
@@ -133,8 +133,8 @@ impl<W: Drain + Drop, J: Naming> Printing<'_, W, J> {
         rest
     }
 
-    /// Prints what is shown, or notes why nothing is, which is said on the error output unless it was so of the look
-    /// before.
+    /// Prints what is shown, or notes the fault of the look, which is reported on standard error unless the look before
+    /// failed, too.
     fn note_shown<R: Wait, E: Drain>(
         &mut self,
         rt: &R,
@@ -163,7 +163,7 @@ impl<W: Drain + Drop, J: Naming> Printing<'_, W, J> {
         self.last = shown;
     }
 
-    /// Sees what was published. Whether nothing new comes any more.
+    /// Takes a notice, and learns the receipt in it, if there is one. Returns whether it is the last.
     fn is_over_at(&mut self, notice: Notice<J>) -> bool {
         match notice {
             Notice::Published(receipt) => {
@@ -185,7 +185,7 @@ fn is_news(prints: Prints, shown: &Shown, last: &Shown) -> bool {
     }
 }
 
-/// Writes what is to be printed. Answers whether the output took it; where it didn't that is said on the error output.
+/// Writes a text to the output. Returns whether that succeeded; a failure is reported on standard error.
 fn is_printed<R: Wait, W: Drain, E: Drain>(
     rt: &R,
     alloc: Global,
@@ -302,7 +302,7 @@ fn changes_shown(alloc: Global, verdicts: &Verdicts, before: &Listed) -> Result<
     }
 }
 
-/// How a site fails where a window of its own does.
+/// The fault of a site for a fault of its window.
 fn serve_fault(fault: WindowFault) -> ServeFault
     ensures { result ≡ after_window fault }
 {

@@ -1,5 +1,5 @@
-//! The thread that has all sockets and the desk of a site: in each turn it reads what is there, holds what is to be
-//! taken in, publishes that, and only then writes the answers.
+//! The thread that owns all sockets and the desk of a site. In each turn it reads what has come, holds the new
+//! operations, publishes them, and only then writes the answers.
 
 ghost use Rattle.std.specs.Prelude.{◌≡◌, [], IfOk, None, OnErr, OnOk, true};
 ghost use Rattle.std.specs.Arc.{arc_value};
@@ -40,20 +40,20 @@ const TICK_MS: u64 = 100;
 /// How many milliseconds are left to write what waits once the site stops.
 const LAST_MS: u64 = 400;
 
-/// How many bytes of answers may wait to be read before no more reports and states are made: 256 MiB.
+/// Above how many bytes of unread answers no further report or state is made: 256 MiB.
 const WAITING_ANSWERS: usize = 268_435_456;
 
-/// How many bytes of a session's count where it is asked whether there is room for what fronts lack: 8 MiB. So few who
-/// read a long state slowly don't hold up those who pull.
+/// How many bytes of a session's unread answers count at most towards the limit for `front`: 8 MiB. So a few clients
+/// that read a long state slowly don't block pulls.
 const SHORT_ANSWERS: usize = 8_388_608;
 
 /// How many bytes are read at once.
 const BLOCK: usize = 65_536;
 
-/// How many connections are accepted in a turn, and how many asks of pullers are done.
+/// How many connections are accepted in a turn, and how many requests of pullers are handled.
 const PER_TURN: usize = 64;
 
-/// How many things are noted in a turn.
+/// How many events of the poll are handled in a turn.
 const EVENTS: usize = 256;
 
 /// The event loop: its poll, its listeners, its limits and its clocks. The sessions are in `Places`.
@@ -76,10 +76,10 @@ pub(super) struct EventLoop {
     has_room: bool,
     has_long_room: bool,
     is_woken: bool,
-    /// Whether something was published, or is to be, of which no news was brought yet.
+    /// Whether the thread that prints reports is still to be notified of a publish.
     is_news_due: bool,
-    /// How long the loop has run, when it last looked at the clock for its sessions, when it last said that a connection
-    /// was refused, and when it was stopped.
+    /// How long the loop has run; when it last checked its sessions' time-outs, last reported a refused connection, and
+    /// was stopped.
     now: Duration,
     looked: Duration,
     refused: Option<Duration>,
@@ -202,7 +202,7 @@ impl EventLoop {
         connection
     }
 
-    /// Says that every place is taken, at most once a second.
+    /// Reports that every place is taken, at most once a second.
     fn refuse<R: Wait, E: Drain, J: Naming>(&mut self, rt: &R, site: &Site<'_, E, J>) {
         site.metrics.note_refused();
         if self.may_say_refused() {
@@ -210,7 +210,8 @@ impl EventLoop {
         }
     }
 
-    /// Says that the system refused a connection, at most once a second. It waits for another try.
+    /// Reports that the system refused a connection, at most once a second. The connection stays queued for a later
+    /// try.
     fn note_not_accepted<R: Wait, E: Drain, J: Naming>(&mut self, rt: &R, site: &Site<'_, E, J>) {
         if self.may_say_refused() {
             let open = self.accepted.wrapping_sub(self.ended);
@@ -218,7 +219,7 @@ impl EventLoop {
         }
     }
 
-    /// Whether nothing was said of refused connections for a second; then something is now.
+    /// Whether a refused connection may be reported: no more than once a second. Notes the report.
     fn may_say_refused(&mut self) -> bool {
         if let Some(refused) = self.refused {
             if self.now.saturating_sub(refused) < Duration::from_secs(1) {
@@ -250,7 +251,7 @@ impl EventLoop {
         send_job(rt, ends, place, self.accepted, Task::Enter);
     }
 
-    /// Takes what the workers have done.
+    /// Takes the replies of the workers.
     fn take_replies<R: Wait, J: Naming>(
         &mut self,
         rt: &R,
@@ -267,7 +268,7 @@ impl EventLoop {
         }
     }
 
-    /// Does the lines of all listed sessions.
+    /// Handles the lines of all listed sessions.
     fn do_sessions<R: Wait, J: Opening, K: Keeps>(
         &mut self,
         rt: &R,
@@ -295,7 +296,7 @@ impl EventLoop {
         }
     }
 
-    /// Writes what waits, and has those sessions end that are over.
+    /// Writes the answers of all listed sessions, and ends those that are over.
     fn write_all<R: Wait, J: Naming>(
         &mut self,
         rt: &R,
@@ -317,8 +318,8 @@ impl EventLoop {
         places.unlist();
     }
 
-    /// Ten times a second: has the listeners tried again, looks whether more answers may be made, and ends the sessions
-    /// with whom there is no patience left.
+    /// Ten times a second: has the listeners tried again, checks whether more answers may be made, and ends the
+    /// sessions that timed out.
     fn look_at_clock<J: Naming>(&mut self, places: &mut Places<J>) {
         if self.now.saturating_sub(self.looked) < Duration::from_millis(TICK_MS) {
             return;
@@ -330,7 +331,7 @@ impl EventLoop {
         self.end_sessions(places);
     }
 
-    /// Ends the sessions with whom there is no patience left, and all where the site stops.
+    /// Ends the sessions that timed out, and all sessions if the site stops.
     fn end_sessions<J: Naming>(&mut self, places: &mut Places<J>) {
         for place in 0..places.count() {
             if self.has_room {
@@ -340,7 +341,7 @@ impl EventLoop {
         }
     }
 
-    /// Whether the loop is at its end: a while after the stop, or once all sessions have ended.
+    /// Whether the loop ends: some time after the stop, or once all sessions have ended.
     fn is_over<R: Wait, J: Naming>(&mut self, rt: &R, places: &mut Places<J>, stop: &Stop) -> bool {
         if self.most > 0 && self.ended >= self.most {
             stop.ask(rt);
@@ -357,7 +358,7 @@ impl EventLoop {
     }
 }
 
-/// Gives a worker something to do for a session. There is room for a job of each place.
+/// Gives a worker a task of a session. The channel has room for one job per place.
 fn send_job<R: Wait, J: Naming>(
     rt: &R,
     ends: &LoopEnds<J>,
@@ -374,7 +375,7 @@ fn send_job<R: Wait, J: Naming>(
     let _sent = ends.jobs.send(rt, job);
 }
 
-/// Holds what the pullers hand over.
+/// Holds the operations that the pullers hand over.
 fn hold_pulled<R: Wait, J: Opening, K: Keeps>(
     rt: &R,
     ends: &LoopEnds<J>,
@@ -453,13 +454,13 @@ fn turn<R: Wait + Clock, J: Opening, K: Keeps, E: Drain>(
     event_loop.do_sessions(rt, site.metrics, places, ends, group);
     publish(rt, site, event_loop, places, ends.answers.as_slice(), group)?;
     event_loop.write_all(rt, places, ends);
-    // After a turn that took long nobody is left whose bytes were there: they are read and written first.
+    // Time-outs are checked last, so that a long turn times out no session whose bytes had come.
     event_loop.look_at_clock(places);
     Ok(())
 }
 
-/// Serves until the site stops, and then does what the pullers still ask. Answers the last publish, which has shown all
-/// that was taken.
+/// Serves until the site stops, and then handles the remaining requests of the pullers. Returns the last publish, which
+/// has everything that was taken in.
 pub(super) fn serve_sessions<R: Wait + Clock, J: Opening, K: Keeps, E: Drain>(
     rt: &R,
     site: Site<'_, E, J>,

@@ -30,7 +30,7 @@ pub struct Peer {
 }
 
 impl Peer {
-    /// A peer of which nothing is known yet.
+    /// A peer that wasn't pulled from yet.
     pub fn at(place: usize) -> Peer {
         Peer {
             place,
@@ -45,21 +45,21 @@ pub enum Condition {
     Well,
     Unreachable,
     Failed(LineFault),
-    /// It says that more is left, and handed over nothing that wasn't there.
+    /// It reported that more is left, and handed over nothing new.
     Endless,
-    /// It doesn't answer as who has the key.
+    /// The handshake with it failed.
     Undialed(DialFault),
-    /// The key isn't there to be used.
+    /// The key for the peer can't be used.
     Unkeyed(KeyFault),
 }
 
-/// What pulls go by.
+/// The settings of pulls.
 #[derive(Drop)]
 pub struct Pulling<'a, T: KeyReader> {
     pub alloc: Global,
     /// The addresses of all peers.
     pub addresses: &'a [PeerAddress<'a>],
-    /// By what peers on other machines are dialed.
+    /// The keys for peers on other machines.
     pub admission: Admission<'a, T>,
     /// How long to rest between two rounds.
     pub pause: Duration,
@@ -148,7 +148,7 @@ where
     is_well
 }
 
-/// Writes what is wrong with a peer, or that nothing is any more.
+/// Reports the condition of a peer: a failure, or that it is reachable again.
 fn report_condition<E: Drain>(
     rt: &impl Wait,
     alloc: Global,
@@ -166,7 +166,7 @@ fn report_condition<E: Drain>(
     }
 }
 
-/// Pulls from one peer, and answers how that ended.
+/// Pulls from one peer, and returns how that ended.
 fn pull_from<R, T, J>(
     rt: &R,
     pulling: &Pulling<'_, T>,
@@ -236,7 +236,7 @@ where
     }
 }
 
-/// The ends of a sealed connection, dialed by a key of this name.
+/// The ends of a sealed connection that is opened with the key of this name.
 fn dialed_by<T: KeyReader, S: Source + Drop, D: Drain + Drop>(
     pulling: &Pulling<'_, T>,
     key: &str,
@@ -249,7 +249,7 @@ fn dialed_by<T: KeyReader, S: Source + Drop, D: Drain + Drop>(
     }
 }
 
-/// The ends of a sealed connection, dialed with this secret.
+/// The ends of a sealed connection that is opened with this secret.
 fn dialed_with<T: KeyReader, S: Source + Drop, D: Drain + Drop>(
     pulling: &Pulling<'_, T>,
     secret: &[u8; 32],
@@ -267,7 +267,7 @@ fn dialed_with<T: KeyReader, S: Source + Drop, D: Drain + Drop>(
     }
 }
 
-/// Pulls over two ends, and answers how that ended.
+/// Pulls over the two ends of a connection, and returns how that ended.
 fn pulled<R: Wait, T: KeyReader, J: Naming, S: Source, D: Drain>(
     pulling: &Pulling<'_, T>,
     source: &mut S,

@@ -1,4 +1,5 @@
-//! The group commit of a site: what is asked is held, then kept and published together, and only then answered.
+//! The group commit of a site: operations of several requests are held, then kept and published together, and only then
+//! are the requests answered.
 
 ghost use Rattle.std.specs.Prelude.{◌≡◌, ◌↔◌, ◌<◌, [], IfOk, IsTrue, MatchResult, None, OnErr, OnOk, length, true};
 ghost use Rattle.std.specs.Arc.{arc_value};
@@ -20,7 +21,7 @@ use std::alloc::Global;
 use std::marker::Model;
 use std::sync::Wait;
 
-/// How many asks are done at once at most, so that one sync does for all of them.
+/// How many requests are committed together at most, by one sync.
 pub const BATCH: usize = 4096;
 
 /// The journal failed: nothing more is published or answered.
@@ -59,7 +60,7 @@ impl<J: Opening, K: Keeps> GroupCommit<J, K> {
         }
     }
 
-    /// Whether one more may wait.
+    /// Whether one more request may wait.
     pub fn has_room(&self) -> bool
         ensures { IsTrue result ↔ (length self.now.waiters < BATCH) }
     {
@@ -85,7 +86,7 @@ impl<J: Opening, K: Keeps> GroupCommit<J, K> {
         self.ledger.kept_bytes()
     }
 
-    /// Holds what is asked: who asked waits from now on, after those who wait already.
+    /// Holds the operations of a request, whose sender waits from now on, after those who wait already.
     pub fn hold(&mut self, ask: Ask)
         requires { length self.old.waiters < BATCH }
         ensures { AddsOne (asker_of ask) (HoldsAsk ask self.old.entries.account self.new.entries.account)
@@ -95,8 +96,8 @@ impl<J: Opening, K: Keeps> GroupCommit<J, K> {
         self.waiters.push_reserved(waiter);
     }
 
-    /// Has what is held kept, publishes it, and then answers all who wait. Where it can't be kept nobody is answered.
-    /// Nobody waits after it.
+    /// Keeps what is held, publishes it, and then answers all who wait. If it can't be kept nobody is answered.
+    /// Afterwards nobody waits.
     pub fn publish<R: Wait>(
         &mut self,
         rt: &R,

@@ -1,4 +1,4 @@
-//! What was read of a session and isn't done yet.
+//! The input buffer of a session: bytes that were read and aren't handled yet.
 
 ghost use Rattle.std.specs.Prelude.{◌≡◌, ◌<◌, ◌≤◌, ◌+◌, ◌++◌, [], Err, List, ℕ, MatchBool, MatchOption, None, OnErr, OnOk, Some, drop, length, take};
 ghost use Rattle.byte_ends.specs.Lines.{without_cr};
@@ -12,13 +12,13 @@ use sealed_link::{Wire, WireFault};
 use std::alloc::{AllocError, Global};
 use std::marker::Model;
 
-/// The bytes that were read of a session, from its first line on that isn't done. Contracts see these bytes.
+/// The bytes that were read of a session, from the first line that isn't handled yet. Contracts see these bytes.
 #[derive(Drop)]
 pub(super) struct Inbox {
     bytes: Vec<u8>,
-    /// How many bytes are done.
+    /// How many bytes are handled.
     next: usize,
-    /// How many of those that aren't are known to have no line end.
+    /// How many of the bytes after these are known to have no line end.
     scanned: usize,
 }
 
@@ -67,7 +67,7 @@ impl Inbox {
         without_cr(&self.bytes[self.next..self.next + size])
     }
 
-    /// Goes on past a line of this size and its end.
+    /// Skips a line of this size and its line end.
     pub(super) fn pass(&mut self, size: usize)
         requires { size < length self.old }
         ensures { self.new ≡ drop (size + 1) self.old }
@@ -84,7 +84,7 @@ impl Inbox {
         self.bytes.len() - self.next > LINE_LIMIT
     }
 
-    /// Keeps what came, in place of what is done. Where memory is refused what came is lost.
+    /// Appends bytes, after it dropped the handled ones. If memory is refused the new bytes are lost.
     pub(super) fn keep(&mut self, came: &[u8]) -> Result<(), AllocError>
         ensures ok { OnOk result (self.new ≡ self.old ++ came.now) }
         ensures err { OnErr result (self.new ≡ self.old) }
@@ -106,7 +106,7 @@ impl Inbox {
         wire.open(came, &mut self.bytes)
     }
 
-    /// Gives up what is done.
+    /// Drops the handled bytes.
     fn drop_done(&mut self)
         ensures { self.new ≡ self.old }
     {
@@ -115,7 +115,7 @@ impl Inbox {
     }
 }
 
-/// The place of the first LF.
+/// The index of the first LF.
 fn first_lf(bytes: &[u8]) -> Option<usize>
     ensures { MatchOption result (HasNoLf bytes.now) (HasFirstLf bytes.now) }
 {

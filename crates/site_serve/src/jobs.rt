@@ -1,4 +1,4 @@
-//! What the workers of a site do for its sessions.
+//! The jobs of a site's workers, and their replies.
 
 use super::channel::Credential;
 use super::opening::OwnWindow;
@@ -12,18 +12,18 @@ use site_shared::{BrandedReceipt, Naming};
 use std::alloc::Global;
 use std::sync::Arc;
 
-/// What a worker does for a session.
+/// A task that a worker does for a session.
 #[derive(Drop)]
 pub(super) enum Task {
     /// It begins.
     Enter,
     /// It asks to be admitted.
     Admit(Credential),
-    /// The key that let it in is looked at again.
+    /// Its key is checked again.
     LookAtKey(KeyId),
     /// It asks to look at what the site has.
     Look(Look),
-    /// It has ended so.
+    /// It has ended, with this result.
     Leave(Result<(), SessionFault>),
 }
 
@@ -36,24 +36,24 @@ pub(super) struct Job<J: Naming> {
     pub task: Task,
 }
 
-/// What a worker has done.
+/// The result of a task.
 #[derive(Drop)]
 pub(super) enum Work {
     /// The session has begun.
     Entered,
     /// It is let in.
     Admitted(Admitted),
-    /// It isn't let in, and is answered so.
+    /// It isn't admitted, and gets this answer.
     Barred(Vec<u8>),
-    /// What the key that let it in is for now; none where the site has no such key any more.
+    /// The present role of its key; `None` if the site has no such key any more.
     KeyLookedAt(Option<Role>),
-    /// A look is answered so, and the session goes on or not.
+    /// The answer to a look, and whether the session goes on.
     Looked(Vec<u8>, Result<bool, LineFault>),
     /// The session has ended.
     Left,
 }
 
-/// What a worker has done for the session of a number, at its place.
+/// A worker's result for the session with this number, at its place.
 #[derive(Drop)]
 pub(super) struct Reply {
     pub place: usize,

@@ -1,4 +1,4 @@
-//! Verdicts that are kept from one report to the next.
+//! Verdicts that are kept and updated from one report to the next.
 
 ghost use Rattle.std.specs.Prelude.{◌≡◌, IfOk};
 ghost use Rattle.std.specs.Option.{ForSome};

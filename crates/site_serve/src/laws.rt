@@ -1,4 +1,4 @@
-//! What holds of running sites, of what they answer and of what they pull from each other, over the definitions alone.
+//! Laws of running sites: what they answer, and what they pull from each other.
 
 ghost use Rattle.std.specs.Prelude.{◌≡◌, List, Option, true};
 ghost use Rattle.gossip_line.specs.PassingOn.{AreNumbered, ShareNoTwins};

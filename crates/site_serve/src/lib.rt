@@ -1,11 +1,10 @@
-//! A site that runs: it answers sessions over sockets, pulls from its peers, and prints its report whenever that
-//! changes.
+//! A running site: it answers sessions over sockets, pulls from its peers, and prints its report whenever that changes.
 //!
 //! Its tests are in the crate `serve_tests`.
 //!
 //! It is a crate of its own so that threads and sockets are in one place. Not taken: a thread for each session (silent
-//! clients keep the others out), `tokio` and `hyper` (a runtime of futures round one loop over `mio`), and a second
-//! thread between sockets and desk, which would have to be woken for each take.
+//! clients would use up the threads), `tokio` and `hyper` (a runtime of futures around one loop over `mio`), and a
+//! second thread between sockets and desk, which would have to be woken for each `take`.
 //!
 //! An example of its use:
 //!

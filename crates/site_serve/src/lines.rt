@@ -1,4 +1,4 @@
-//! Does the lines of a session.
+//! Handles the lines of a session.
 
 ghost use Rattle.std.specs.Prelude.{◌≡◌, ◌⊎◌, ◌<◌, ◌+◌, Bool, IfOk, IsSome, MatchBool, Ok, Result, drop, false, length, nat_eq, take, true};
 ghost use Rattle.std.specs.Arc.{arc_value};
@@ -35,10 +35,10 @@ use std::alloc::{AllocError, Global};
 use std::sync::Wait;
 use std::time::Duration;
 
-/// How many lines of a session are done in a turn.
+/// How many lines of a session are handled in a turn at most.
 const LINES_A_TURN: usize = 64;
 
-/// The session whose lines are done, and what doing them takes.
+/// The session whose lines are handled, and what that needs.
 #[derive(Drop)]
 pub(super) struct LineContext<'a, J: Naming> {
     pub alloc: Global,
@@ -46,14 +46,15 @@ pub(super) struct LineContext<'a, J: Naming> {
     pub place: usize,
     pub number: u64,
     pub moment: Duration,
-    /// Whether there is room for what more fronts lack, and for more reports and states.
+    /// Whether `front` may be answered, and whether `ready` and `state` may be, given how many answers are unread.
     pub has_room: bool,
     pub has_long_room: bool,
     pub metrics: &'a Metrics,
     pub jobs: &'a Sender<Job<J>, Global>,
 }
 
-/// Does the lines of a session that are there, so many in a turn at most. Who asks to take in a body waits for the
+/// Handles the lines of a session that have come, at most `LINES_A_TURN`. After a `take` only further `take`
+/// lines are handled until the publish.
 /// publish.
 #[tactic(auto, using(crate::proofs::Waiting::steps_within))]
 pub(super) fn do_lines<R: Wait, J: Opening, K: Keeps>(
@@ -69,7 +70,7 @@ pub(super) fn do_lines<R: Wait, J: Opening, K: Keeps>(
     // Nothing is answered before what was asked earlier is.
     ensures order { 0 < session.old.waiting → session.new.outbox ≡ session.old.outbox }
 
-    // One line after the other is done, each just once, and nothing else: none is left out.
+    // The lines are handled one after the other, each exactly once, and nothing else is done: no line is left out.
     ensures lines { DoesLines (session_at context.now.place context.now.number) (as_nanos context.now.moment) 64
         session.old session.new group.old group.new }
 {
@@ -83,8 +84,8 @@ pub(super) fn do_lines<R: Wait, J: Opening, K: Keeps>(
     }
 }
 
-/// Does the next line of a session, or reads on where none is there: false where it has to wait. No line is done before
-/// the session's key is looked at, where that is due.
+/// Handles the next line of a session, or reads more if none is whole. Returns false if the session has to wait. No
+/// line is handled while a check of the session's key is due.
 #[tactic(auto, using(crate::proofs::Waiting::none_own, crate::proofs::Waiting::none_does, crate::proofs::Waiting::one_does, crate::proofs::Rights::reads_nothing))]
 fn do_next<R: Wait, J: Opening, K: Keeps>(
     rt: &R,
@@ -100,7 +101,8 @@ fn do_next<R: Wait, J: Opening, K: Keeps>(
         → group.new ≡ group.old }
     ensures waits { 0 < session.old.waiting → 0 < session.new.waiting }
 
-    // The next line is done, just once, or none is: none is left out, and nothing is done that no line asks for.
+    // The next line is handled, exactly once, or none is: no line is left out, and nothing is done that no line asks
+    // for.
     ensures one { DoesOne (session_at context.now.place context.now.number) (as_nanos context.now.moment)
         session.old session.new
         (record { answers = session.old.outbox; waiters = group.old.waiters; account = group.old.entries.account })
@@ -118,7 +120,7 @@ fn do_next<R: Wait, J: Opening, K: Keeps>(
     }
 }
 
-/// Has a worker look at the key that let a session in.
+/// Has a worker check the key of a session again.
 fn look_at_key<R: Wait, J: Naming>(
     rt: &R,
     context: &LineContext<'_, J>,
@@ -133,7 +135,7 @@ fn look_at_key<R: Wait, J: Naming>(
     send_task(rt, context, Task::LookAtKey(key));
 }
 
-/// Reads on, where no line is there. Whether something came.
+/// Reads more, as no whole line has come. Returns whether something came.
 #[tactic(auto, using(crate::proofs::Rights::reads_nothing))]
 fn read_on<R: Wait, J: Naming>(
     rt: &R,
@@ -164,7 +166,7 @@ fn read_on<R: Wait, J: Naming>(
     }
 }
 
-/// Answers that a line is too long, once nothing that was asked before it waits for its answer.
+/// Answers that a line is too long, once everything before it is answered.
 fn say_too_long<J: Naming>(context: &LineContext<'_, J>, session: &mut Session<J>)
     ensures says { MaySayLong session.old.outbox session.new.outbox }
     ensures order { 0 < session.old.waiting → session.new.outbox ≡ session.old.outbox }
@@ -178,7 +180,7 @@ fn say_too_long<J: Naming>(context: &LineContext<'_, J>, session: &mut Session<J
     session.say_too_long(context.alloc);
 }
 
-/// Has a worker look whether a session is let in by what it asks that by.
+/// Has a worker check the credential of a connection.
 fn ask_for<R: Wait, J: Naming>(
     rt: &R,
     context: &LineContext<'_, J>,
@@ -193,7 +195,7 @@ fn ask_for<R: Wait, J: Naming>(
     send_task(rt, context, Task::Admit(credential));
 }
 
-/// Gives a worker a task of the session that looks at nothing of the site's.
+/// Gives a worker a task of the session that doesn't read the record.
 fn send_task<R: Wait, J: Naming>(rt: &R, context: &LineContext<'_, J>, task: Task) {
     let job = Job {
         place: context.place,
@@ -204,7 +206,7 @@ fn send_task<R: Wait, J: Naming>(rt: &R, context: &LineContext<'_, J>, task: Tas
     let _sent = context.jobs.send(rt, job);
 }
 
-/// Does a line of a session: false where it has to wait, or the session ends at it.
+/// Handles a line of a session. Returns false if the line has to wait, or the session ends with it.
 #[tactic(auto, using(crate::proofs::Waiting::none_own, crate::proofs::Waiting::says_does, crate::proofs::Waiting::takes_does, crate::proofs::Waiting::looks_does, crate::proofs::Rights::had_after))]
 fn do_line<R: Wait, J: Opening, K: Keeps>(
     rt: &R,
@@ -216,7 +218,7 @@ fn do_line<R: Wait, J: Opening, K: Keeps>(
     requires line { HasFirstLf session.old.inbox size }
     requires room { length group.old.waiters < BATCH }
 
-    // The next line is done, or none is.
+    // The next line is handled, or none is.
     ensures does { MatchBool result
         ((session.new.inbox ≡ drop (size + 1) session.old.inbox)
         × DoesLine session.old.may_take (nat_eq session.old.lines 0) (without_cr (take size session.old.inbox))
@@ -265,7 +267,7 @@ fn do_line<R: Wait, J: Opening, K: Keeps>(
     }
 }
 
-/// Whether there is room for the answer of a look.
+/// Whether a look may be answered now, given how many answers are unread.
 fn has_room_for<J: Naming>(context: &LineContext<'_, J>, look: &Look) -> bool {
     match look {
         Look::Missing(_) => context.has_room,
@@ -273,8 +275,8 @@ fn has_room_for<J: Naming>(context: &LineContext<'_, J>, look: &Look) -> bool {
     }
 }
 
-/// Has the body of the line of this size held, where the session may have bodies taken in, and goes on past that line:
-/// false where it has to wait.
+/// Holds the body of a `take` line, if the session is allowed to send one, else answers that it isn't; and skips the
+/// line. Returns false if the line has to wait.
 #[tactic(auto, using(crate::proofs::Waiting::none_own, crate::proofs::Waiting::one_own, crate::proofs::Rights::had_after))]
 fn take_body<J: Opening, K: Keeps>(
     context: &LineContext<'_, J>,
@@ -316,7 +318,7 @@ fn take_body<J: Opening, K: Keeps>(
     true
 }
 
-/// Goes on past the line of this size, and has a worker look for the session as that line asks.
+/// Skips the line, and has a worker do the look that it asks for.
 #[tactic(auto, using(crate::proofs::Rights::had_before))]
 fn begin_look<R: Wait, J: Naming>(
     rt: &R,
@@ -341,7 +343,7 @@ fn begin_look<R: Wait, J: Naming>(
     let _sent = context.jobs.send(rt, job);
 }
 
-/// A look for a session, which is to see no less than what its newest receipt has seen published.
+/// The job of a look, which sees at least what the session's newest receipt covers.
 fn look_job<J: Naming>(
     context: &LineContext<'_, J>,
     session: &Session<J>,

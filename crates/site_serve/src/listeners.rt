@@ -1,4 +1,4 @@
-//! What a site listens at, as the loop polls it.
+//! The listeners of a site, as the loop polls them.
 
 use super::session::Connection;
 use mio::net::{TcpListener, TcpStream, UnixListener};
@@ -9,7 +9,7 @@ use std::io;
 use std::io::ErrorKind;
 use std::os::fd::OwnedFd;
 
-/// A listener that doesn't wait.
+/// A non-blocking listener.
 #[derive(Drop)]
 enum Polled {
     Port(TcpListener),

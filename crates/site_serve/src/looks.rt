@@ -1,4 +1,4 @@
-//! The workers of a site: they look at what it has for its sessions.
+//! The workers of a site, which answer the looks of its sessions.
 
 ghost use Rattle.std.specs.Prelude.{◌≡◌, [], Ok, true};
 ghost use Rattle.std.specs.Arc.{arc_value};
@@ -31,8 +31,7 @@ use site_shared::{BrandedReceipt, Naming};
 use std::alloc::Global;
 use std::sync::{Arc, Wait};
 
-/// Does the jobs of sessions until no more come or nobody takes what was done, each under the gate that is in force
-/// when it begins.
+/// Does jobs until the loop closes one of the channels, each under the gate that is in force when it begins.
 pub(super) fn do_jobs<R: Wait, E: Drain, T: Turn, J: Naming>(
     rt: &R,
     alloc: Global,
@@ -60,7 +59,7 @@ pub(super) fn do_jobs<R: Wait, E: Drain, T: Turn, J: Naming>(
     }
 }
 
-/// Does a job of a session: a look of it sees no less than what the job's receipt has seen published.
+/// Does a job. A look sees at least what the job's receipt covers.
 fn done<R: Wait, E: Drain, T: Turn, J: Naming>(
     rt: &R,
     alloc: Global,
@@ -91,7 +90,7 @@ fn done<R: Wait, E: Drain, T: Turn, J: Naming>(
     }
 }
 
-/// Does a task of a session, which sees no less than what the receipt has seen published.
+/// Does a task. A look sees at least what the receipt covers.
 fn worked<R: Wait, E: Drain, T: Turn, J: Naming>(
     rt: &R,
     alloc: Global,
@@ -122,7 +121,7 @@ fn entered<T: Turn>(turn: &T, session: u64) -> Work {
     Work::Entered
 }
 
-/// What is answered to a look, which is noted as long as it lasts.
+/// Answers a look, which counts as in progress in the metrics meanwhile.
 fn noted<R: Wait, J: Naming>(
     alloc: Global,
     look: &Look,
@@ -139,7 +138,7 @@ fn noted<R: Wait, J: Naming>(
     work
 }
 
-/// A session has ended so.
+/// A session has ended with this result.
 fn left<R: Wait, E: Drain, T: Turn>(
     rt: &R,
     alloc: Global,
@@ -157,7 +156,7 @@ fn left<R: Wait, E: Drain, T: Turn>(
     Work::Left
 }
 
-/// What is answered to a look, which sees no less than what the receipt has seen published.
+/// Answers a look that sees at least what the receipt covers.
 fn looked<R: Wait, J: Naming>(
     alloc: Global,
     look: &Look,
@@ -173,7 +172,7 @@ fn looked<R: Wait, J: Naming>(
     shown(alloc, look, port)
 }
 
-/// Sees no less than what the receipt has seen published from now on. False for a receipt of another opening.
+/// From now on the port sees at least what the receipt covers. False for a receipt of another opening.
 fn has_learnt<R: Wait, J: Naming>(
     receipt: &Option<Arc<BrandedReceipt<J>, Global>>,
     port: &mut SitePort<'_, '_, R, J>,
@@ -200,7 +199,7 @@ fn shown<R: Wait, J: Naming>(alloc: Global, look: &Look, port: &mut SitePort<'_,
     }
 }
 
-/// What is answered where nothing could be looked at.
+/// The answer if the look failed.
 fn said(alloc: Global, refused: Result<Stamp, PortFault>) -> Work
     ensures { IsLooked (Adds (reply_text (reply_by stamped refused)) (Ok true) []) result }
 {

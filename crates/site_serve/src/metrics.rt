@@ -5,7 +5,7 @@ use std::sync::atomic::{AtomicU64, Ordering};
 use std::sync::{Mutex, Wait};
 use std::time::{Clock, Duration, Instant};
 
-/// What was never noted.
+/// The value for "never".
 const NEVER: u64 = u64::MAX;
 
 /// The metrics of the pulls from a peer. Moments are counted from the beginning of the site.
@@ -22,7 +22,7 @@ pub struct PeerMetrics {
     pub failures: u64,
 }
 
-/// The metrics of a site. Each figure is of its own moment.
+/// The metrics of a site. The values aren't read at one moment.
 #[derive(Drop)]
 pub struct Metrics {
     begun: Option<Instant>,
@@ -49,7 +49,7 @@ pub struct JournalMetrics {
 }
 
 impl Metrics {
-    /// Nothing is noted yet, from now on, of so many peers.
+    /// New metrics for so many peers, which begin now.
     pub fn new<R: Clock>(rt: &R, alloc: Global, count: usize) -> Result<Metrics, AllocError> {
         let mut peers = Vec::with_capacity(alloc, count)?;
         for _ in 0..count {
@@ -89,33 +89,33 @@ impl Metrics {
         self.sessions.store(sessions, Ordering::Relaxed);
     }
 
-    /// The desk has published something new.
+    /// Notes a publish of new operations.
     pub fn note_news(&self, now: Duration) {
         self.news_ms.store(millis(now), Ordering::Relaxed);
         self.publishes.fetch_add(1, Ordering::Relaxed);
     }
 
-    /// What feeds the site said that it heard from Gerrit.
+    /// Notes that a feed reported that Gerrit was heard.
     pub fn note_heard(&self, now: Duration) {
         self.heard_ms.store(millis(now), Ordering::Relaxed);
     }
 
-    /// A worker looks from now on.
+    /// Notes that a worker begins a look.
     pub fn begin_look(&self) {
         self.looking.fetch_add(1, Ordering::Relaxed);
     }
 
-    /// A worker has looked.
+    /// Notes that a worker has ended a look.
     pub fn end_look(&self) {
         self.looking.fetch_sub(1, Ordering::Relaxed);
     }
 
-    /// A session ended with a fault.
+    /// Notes that a session ended with a fault.
     pub fn note_fault(&self) {
         self.session_faults.fetch_add(1, Ordering::Relaxed);
     }
 
-    /// A connection was closed, since as many as may be were open.
+    /// Notes that a connection was closed because the limit of connections was reached.
     pub fn note_refused(&self) {
         self.refused_connections.fetch_add(1, Ordering::Relaxed);
     }
@@ -151,7 +151,7 @@ impl Metrics {
         passed_since(self.news_ms.load(Ordering::Relaxed), now)
     }
 
-    /// How long ago what feeds the site said that it heard from Gerrit, if it did.
+    /// How long ago a feed reported that Gerrit was heard, if one did.
     pub fn since_heard(&self, now: Duration) -> Option<Duration> {
         passed_since(self.heard_ms.load(Ordering::Relaxed), now)
     }

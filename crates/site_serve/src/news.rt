@@ -1,4 +1,4 @@
-//! What is new at a site, for the thread that prints its reports.
+//! Notifies the thread that prints reports of what is new.
 
 use super::reloads::Reloads;
 use site_shared::{BrandedReceipt, Naming};
@@ -24,7 +24,7 @@ struct Slot<J: Naming> {
     is_awaited: bool,
 }
 
-/// Why there is something to look at.
+/// Why the thread is woken.
 #[derive(Drop)]
 pub enum Notice<J: Naming> {
     /// Something was published.
@@ -36,7 +36,7 @@ pub enum Notice<J: Naming> {
 }
 
 impl<J: Naming> News<J> {
-    /// There is nothing new yet at a site with these reloads.
+    /// No news yet, with the reloads whose wake-up wakes the thread.
     pub fn new(reloads: Arc<Reloads, Global>) -> News<J> {
         News {
             slot: Mutex::new(Slot {
@@ -48,7 +48,7 @@ impl<J: Naming> News<J> {
         }
     }
 
-    /// Brings a receipt. Where memory is refused for that, the next one has what it has.
+    /// Notifies of a receipt. If memory is refused, the next receipt covers it.
     pub fn bring(&self, rt: &impl Wait, receipt: &Arc<BrandedReceipt<J>, Global>) {
         let Ok(newest) = Arc::try_clone(receipt) else {
             return;
@@ -79,8 +79,8 @@ impl<J: Naming> News<J> {
         slot.is_closed = true;
     }
 
-    /// Rests for so long, and then waits for a receipt that nobody has looked at. Another gate and the end are noticed
-    /// at once, also in the rest; after the end it doesn't rest.
+    /// Rests for the pause, and then waits for a new receipt. Another gate and the end are noticed at once, also during
+    /// the rest; after the end it doesn't rest.
     pub fn next<R: Wait + Clock>(&self, rt: &R, pause: Duration) -> Notice<J> {
         let wakeup = self.reloads.wakeup();
         if !self.is_closed(rt) && wakeup.wait_for(rt, pause) {
@@ -98,7 +98,7 @@ impl<J: Naming> News<J> {
         self.slot.lock(rt).is_closed
     }
 
-    /// What is new already. Where nothing is, that is awaited from now on.
+    /// What is new already; if nothing is, notes that the thread waits.
     fn known(&self, rt: &impl Wait) -> Option<Notice<J>> {
         let mut slot = self.slot.lock(rt);
         slot.is_awaited = slot.newest.is_none();

@@ -1,5 +1,5 @@
-//! What belongs to one opening of a site. That a receipt which a window is handed comes from the window's own opening
-//! is part of their types.
+//! The parts of one opening of a site. Their types have the opening as a parameter, so that a window can't be given a
+//! receipt of another opening.
 
 ghost use Rattle.std.specs.Prelude.{◌≡◌, ◌<◌, ◌∷◌, ◌⊎◌, ◌↔◌, [], Err, IfErr, IfOk, IfSome, IsOk, List, MatchResult};
 ghost use Rattle.std.specs.Prelude.{None, OnErr, OnOk, false, if◌then◌else◌, length, nat_lt, take, true};
@@ -55,8 +55,8 @@ impl<J: Naming> OwnWindow<J> {
         }
     }
 
-    /// Sees no less than the publish that the receipt was answered for, from now on, as `Window::learn` does. One of
-    /// another site or start isn't of this opening, and changes nothing.
+    /// From now on the window sees at least the publish of the receipt, as `Window::learn` does. A receipt of another
+    /// site or start isn't of this opening, and changes nothing.
     pub fn learn(&mut self, receipt: &BrandedReceipt<J>) -> Result<(), Stranger>
         ensures own { IsOk result ↔ BearsOwn self.old.window receipt.now }
         ensures later { GoesOn self.old.window self.new.window }
@@ -133,7 +133,7 @@ impl<J: Naming> OwnWindow<J> {
         self.window.missing(front, limit)
     }
 
-    /// Whether an operation bears the site's number, and its start or a later one, though the record lacks it.
+    /// Whether one of the operations has the site's number, and its start or a later one, and isn't in the record.
     pub fn has_foreign(&mut self, ops: &[Op]) -> Result<bool, WindowFault>
         ensures later { GoesOn self.old.window self.new.window }
         ensures ok { IfOk result (λ found. found
@@ -281,8 +281,7 @@ impl<J: Opening, K: Keeps> OwnLedger<J, K> {
         self.ledger.kept_bytes()
     }
 
-    /// Has what is held kept, and then publishes it, as `Ledger::publish` does: all of it is in what the receipt has
-    /// seen published.
+    /// Keeps what is held, and then publishes it, as `Ledger::publish` does: the receipt covers all of it.
     pub fn publish<R: Wait>(&mut self, rt: &R) -> Result<BrandedReceipt<J>, LedgerFault>
         ensures ok { IfOk result (λ receipt. (self.old.is_over ≡ false) × (self.new.is_over ≡ false)
             × (self.new.account ≡ flushing self.old.account)

@@ -1,4 +1,4 @@
-//! What a session was answered and isn't sent yet.
+//! The output buffer of a session: answers that aren't sent yet.
 
 ghost use Rattle.std.specs.Prelude.{◌≡◌, ◌≤◌, ◌++◌, [], List, ℕ, Err, Ok, OnErr, OnOk, drop, length, true};
 ghost use Rattle.gossip_line.specs.Steps.{answer_of};
@@ -16,11 +16,10 @@ use std::alloc::{AllocError, Global};
 use std::marker::Model;
 use std::mem;
 
-/// How many bytes that were sent are kept at most beside those that wait, where these are fewer, and for how many bytes
-/// there is room where none waits.
+/// How many sent bytes are kept at most while fewer wait, and the capacity that is kept when none waits.
 const KEPT: usize = 65_536;
 
-/// The bytes that a session was answered and that weren't sent yet. Contracts see these bytes.
+/// The bytes of answers that weren't sent yet. Contracts see these bytes.
 #[derive(Drop)]
 pub(super) struct Outbox {
     answers: Vec<u8>,
@@ -63,7 +62,7 @@ impl Outbox {
         &self.answers[self.sent..]
     }
 
-    /// Adds the answer to a line of which it is known what is answered.
+    /// Adds an answer that doesn't depend on the site.
     pub(super) fn say(&mut self, alloc: Global, saying: Saying) -> Result<bool, LineFault>
         ensures { Adds (answer_text (answer_of saying)) (next_of (answer_of saying)) self.old self.new result }
     {
@@ -123,7 +122,7 @@ impl Outbox {
         }
     }
 
-    /// Gives up what was sent.
+    /// Drops the sent bytes.
     fn drop_sent(&mut self)
         ensures { self.new ≡ self.old }
     {
@@ -131,7 +130,7 @@ impl Outbox {
         self.sent = 0;
     }
 
-    /// Gives up what waits to be sent, and the room that long answers had.
+    /// Drops everything, and frees the capacity of long answers.
     pub(super) fn clear(&mut self)
         ensures { self.new ≡ [] }
     {
@@ -141,7 +140,7 @@ impl Outbox {
     }
 }
 
-/// An end that writes after these bytes, which are moved there.
+/// A drain that appends to these bytes, which are moved into it.
 fn drain_over(answers: &mut Vec<u8>, alloc: Global) -> Ends<Vec<u8>>
     ensures inner { ends_inner result ≡ answers.old }
     ensures failures { ends_failed result ≡ 0 }
@@ -149,7 +148,7 @@ fn drain_over(answers: &mut Vec<u8>, alloc: Global) -> Ends<Vec<u8>>
     Ends::new(mem::replace(answers, Vec::new(alloc)))
 }
 
-/// Where bytes in memory can't take more, memory was refused.
+/// A failed write to memory is reported as refused memory.
 pub(super) fn refusing_memory<T>(said: Result<T, LineFault>) -> Result<T, LineFault>
     ensures { IsRefusingMemory said result }
 {

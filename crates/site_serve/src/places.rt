@@ -19,7 +19,7 @@ pub(super) struct Places<J: Naming> {
 }
 
 impl<J: Naming> Places<J> {
-    /// So many places, all free.
+    /// A table of so many places, all free.
     pub(super) fn new(alloc: Global, places: usize) -> Result<Places<J>, AllocError> {
         let free = free_ones(alloc, places)?;
         let listed = Vec::with_capacity(alloc, places)?;
@@ -41,7 +41,7 @@ impl<J: Naming> Places<J> {
         self.free.len() >= self.sessions.len()
     }
 
-    /// A place that is free, which from then on isn't.
+    /// Takes a free place, if there is one.
     pub(super) fn free_one(&mut self) -> Option<usize> {
         self.free.pop()
     }
@@ -122,7 +122,7 @@ impl<J: Naming> Places<J> {
         }
     }
 
-    /// Answers the session of a number at a place by what the desk did, unless it has gone. No other session is
+    /// Gives the desk's answer to the session with this number at a place, unless it has ended. No other session is
     /// answered.
     pub(super) fn take_answer(
         &mut self,
@@ -156,8 +156,8 @@ impl<J: Naming> Places<J> {
         }
     }
 
-    /// Takes what a worker has done for a session, unless that has gone. Whether the session has ended. No other
-    /// session goes on with it.
+    /// Gives a worker's reply to its session, unless that has ended. Returns whether the session has left. No other
+    /// session is affected.
     pub(super) fn take_reply(&mut self, reply: Reply, now: Duration) -> bool
         ensures others { (other : ℕ) → other ≢ reply.place
             → slice_get self.new.sessions.items other ≡ slice_get self.old.sessions.items other }
@@ -184,7 +184,7 @@ impl<J: Naming> Places<J> {
         true
     }
 
-    /// How many bytes of answers wait to be read, of each session so many at most.
+    /// How many bytes of answers are unread, counting at most `most` for each session.
     pub(super) fn waiting_bytes(&self, most: usize) -> usize {
         let mut bytes = 0usize;
         for session in self.sessions.iter().flatten() {
@@ -202,7 +202,7 @@ impl<J: Naming> Places<J> {
         }
     }
 
-    /// Ends a session with whom there is no patience left, or each one where the site stops.
+    /// Ends a session that timed out, or any session if the site stops.
     pub(super) fn end_if_over(
         &mut self,
         place: usize,

@@ -1,4 +1,4 @@
-//! The site, as a session or a pull of it sees it.
+//! The running site as a `Port` for sessions and a `Sink` for pulls.
 
 ghost use Rattle.std.specs.Prelude.{◌≡◌, ◌⊎◌, ◌+◌, ◌%◌, ◌^◌, IfOk, OnErr, OnOk, false, true};
 ghost use Rattle.std.specs.List.{list_all, list_any};
@@ -56,14 +56,14 @@ impl<'a, 'g, R: Wait, J: Naming> SitePort<'a, 'g, R, J> {
         }
     }
 
-    /// Judges under the gate that is in force now, from now on.
+    /// Switches to the gate that is in force now.
     pub fn follow(&mut self)
         ensures { self.new.window ≡ self.old.window }
     {
         self.ruling.follow(self.rt, &mut self.kept);
     }
 
-    /// Sees no less than a publish from now on. False for a publish of another opening.
+    /// From now on it sees at least the publish of the receipt. False for a receipt of another opening.
     pub fn learn(&mut self, receipt: &BrandedReceipt<J>) -> bool
         ensures later { GoesOn self.old.window.window self.new.window.window }
         ensures gate { self.new.ruling ≡ self.old.ruling }
@@ -115,8 +115,7 @@ impl<'a, 'g, R: Wait, J: Naming> Port for SitePort<'a, 'g, R, J> {
     }
 }
 
-/// A pull's view of the site: a window to look through, and a link to the desk. What the desk answered, the window has
-/// learnt.
+/// A pull's view of the site: a window, and a link to the desk. The window has learnt each receipt of the desk.
 #[derive(Drop)]
 pub struct PullPort<'a, R: Wait, J: Naming> {
     rt: &'a R,
@@ -125,7 +124,7 @@ pub struct PullPort<'a, R: Wait, J: Naming> {
     window: OwnWindow<J>,
     desk_link: DeskLink<J>,
     is_start_taken: bool,
-    /// How many times operations were handed over of which one wasn't there, modulo 2^64.
+    /// How many times operations were handed over of which at least one was new, modulo 2^64.
     brought: u64,
 }
 
@@ -149,15 +148,16 @@ impl<'a, R: Wait, J: Naming> PullPort<'a, R, J> {
         }
     }
 
-    /// How many times pulls have handed over operations of which one wasn't there, modulo 2^64: a pull that leaves it as
-    /// it was has brought nothing.
+    /// How many times pulls have handed over operations of which at least one was new, modulo 2^64. A pull that doesn't
+    /// change this number has brought nothing new.
     pub fn brought(&self) -> u64
         ensures { result ≡ self.now.brought }
     {
         self.brought
     }
 
-    /// Whether a peer has handed over an operation that another process took in as this site.
+    /// Whether a peer has sent an operation with this site's number, and its start or a later one, that the record
+    /// lacks: another process runs as this site.
     pub fn is_start_taken(&self) -> bool
         ensures { result ≡ self.now.is_start_taken }
     {
@@ -179,7 +179,7 @@ impl<'a, R: Wait, J: Naming> PullPort<'a, R, J> {
         self.desk_link.answers.recv(self.rt).ok()
     }
 
-    /// Refuses operations that another process took in as this site, and notes that there are such.
+    /// Refuses operations if one shows that another process runs as this site, and notes that.
     fn bar_foreign(&mut self, ops: &[Op]) -> Result<(), SinkFault>
         ensures later { GoesOn self.old.window.window self.new.window.window }
         ensures ours { OnOk result ((list_any (is_foreign self.old.window.window.site self.old.window.window.start
@@ -200,7 +200,7 @@ impl<'a, R: Wait, J: Naming> PullPort<'a, R, J> {
         }
     }
 
-    /// Notes whether one of these stamps isn't there yet.
+    /// Raises `brought` by 1 if the record lacks an operation with one of these stamps.
     fn note_new(&mut self, stamps: &[Stamp]) -> Result<(), SinkFault>
         ensures later { GoesOn self.old.window.window self.new.window.window }
         ensures same { OnOk result (list_all (has_stamp (arrive self.new.window.window.seen)) stamps.now ≡ true
@@ -275,7 +275,7 @@ impl<'a, R: Wait, J: Naming> Sink for PullPort<'a, R, J> {
     }
 }
 
-/// How a port refuses where the desk does.
+/// The port's fault for a fault of the desk.
 pub fn desk_fault(fault: DeskFault) -> PortFault
     ensures { result ≡ port_fault_of fault }
 {
@@ -286,7 +286,7 @@ pub fn desk_fault(fault: DeskFault) -> PortFault
     }
 }
 
-/// How a port refuses where the window does.
+/// The port's fault for a fault of the window.
 fn window_fault(fault: WindowFault) -> PortFault
     ensures { IsLookingFault result }
 {
@@ -296,7 +296,7 @@ fn window_fault(fault: WindowFault) -> PortFault
     }
 }
 
-/// How a sink refuses where the window does.
+/// The sink's fault for a fault of the window.
 fn sink_fault(fault: WindowFault) -> SinkFault {
     match fault {
         WindowFault::NoMemory => SinkFault::NoMemory,

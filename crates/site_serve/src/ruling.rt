@@ -17,15 +17,15 @@ pub struct Ruling<'a> {
 }
 
 impl<'a> Ruling<'a> {
-    /// The gate in force so far, which these reloads take the place of.
+    /// A ruling that begins with a gate in force, and follows these reloads.
     pub fn new(reloads: &'a Reloads, in_force: InForce) -> Ruling<'a>
         ensures { ruling_gate result ≡ gate_in in_force }
     {
         Ruling { reloads, in_force }
     }
 
-    /// Judges under the gate that is in force now, never under an older one than before. The verdicts that are kept are
-    /// of the gate before it, and are dropped; where no other gate was put in force they stay.
+    /// Switches to the gate that is in force now, never to an older one. If the gate changed, the kept verdicts, which
+    /// are of the previous gate, are dropped.
     pub fn follow<R: Wait, J: Naming>(&mut self, rt: &R, kept: &mut Option<OwnWatch<J>>)
         requires { ForSome kept.old (λ watch. watch.watch.gate ≡ ruling_gate self.old) }
         ensures kept { ForSome kept.new (λ watch. watch.watch.gate ≡ ruling_gate self.new) }

@@ -45,7 +45,7 @@ use std::sync::{Arc, Wait};
 use std::thread::Threads;
 use std::time::{Clock, Duration};
 
-/// How many workers look side by side at most.
+/// How many workers a site has at most.
 const MOST_WORKERS: usize = 6;
 
 /// How many windows a site has at most: for its workers, its reports, its pages and its pulls.
@@ -207,7 +207,7 @@ fn parts_of<'a>(setup: Setup<'a>) -> (Gate, Parts<'a>)
     (gate, parts)
 }
 
-/// A site that has all with which it is opened, and the record that it is opened with.
+/// A site that is ready to be opened, with its record.
 #[derive(Drop)]
 struct Begun<'a, E: Drain, T: Turn> {
     common: Common<'a, E, T>,
@@ -306,7 +306,7 @@ fn begun_with<'a, E: Drain, T: Turn>(
     }
 }
 
-/// What is made for a site, which may be refused.
+/// The parts of a site that are made before it is opened, which may be refused.
 #[derive(Drop)]
 struct Made {
     poll: Poll,
@@ -358,7 +358,7 @@ fn noted<R: Clock>(
     Ok((shares, metrics, first))
 }
 
-/// Opens a site that has all that it needs for that, and runs it.
+/// Opens a site that is ready, and runs it.
 fn run_begun<R, W, E, T, K>(rt: &R, begun: Begun<'_, E, T>, output: W, keeper: K) -> Closed<K>
 where
     R: Net<Listener = TcpListener, Stream = TcpStream> + Threads + Wait + Clock + Sync,
@@ -437,7 +437,7 @@ fn polled<R: Net>(
     Ok((poll, listeners))
 }
 
-/// The patience with the other sides of connections.
+/// The time-outs of connections.
 fn patience_of(idle_ms: u64) -> Patience
     ensures { (as_nanos result.limit ≡ 30_000 * 1_000_000) × (option_map as_nanos result.idle ≡ idle_nanos idle_ms) }
 {
@@ -452,7 +452,7 @@ fn patience_of(idle_ms: u64) -> Patience
     }
 }
 
-/// How a site isn't run where it isn't opened.
+/// The fault of a site that can't be opened.
 fn open_fault(fault: OpenFault) -> ServeFault
     ensures { result ≡ after_opening fault }
 {

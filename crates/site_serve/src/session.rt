@@ -44,7 +44,7 @@ use std::time::Duration;
 /// How many bytes of answers may wait to be written before no more lines are answered.
 const WAITING_BYTES: usize = 1_048_576;
 
-/// For how long a key that let a session in needn't be looked at again, in nanoseconds: a second.
+/// After how many nanoseconds the key of a session is checked again: a second.
 const KEY_NANOS: u128 = 1_000_000_000;
 
 /// How many times as long as another one a session may be silent that has had a body taken in, or refused: by default a
@@ -57,7 +57,7 @@ const LINES: u64 = 1_000_000;
 /// How many writes are made at once at most.
 const WRITES: usize = 16;
 
-/// A connection that was accepted, and whether it has to be let in by a key.
+/// An accepted connection, and whether it has to authenticate by a key.
 #[derive(Drop)]
 pub(super) struct Connection {
     pub stream: TcpStream,
@@ -70,18 +70,18 @@ pub(super) struct Session<J: Naming> {
     /// Its number, from 1, in the order in which sessions were accepted.
     pub number: u64,
     stream: TcpStream,
-    /// What its bytes go through.
+    /// The channel between its bytes and its lines.
     channel: Channel,
     /// Whether it may have bodies taken in.
     may_take: bool,
-    /// The key that it asked to be let in by, and when that was looked at last.
+    /// The key that it named to be admitted, and when that was checked last.
     key: Option<KeyId>,
     key_seen: Duration,
-    /// What was read of it and isn't done yet.
+    /// What was read of it and isn't handled yet.
     pub inbox: Inbox,
     /// What it was answered and isn't sent yet.
     pub outbox: Outbox,
-    /// How many lines of it are done.
+    /// How many of its lines were handled.
     lines: u64,
     /// The newest receipt that it was answered by.
     receipt: Option<Arc<BrandedReceipt<J>, Global>>,
@@ -89,7 +89,7 @@ pub(super) struct Session<J: Naming> {
     waiting: usize,
     /// Whether it has had a body taken in, or refused: then it may be silent for longer.
     has_taken: bool,
-    /// Whether a worker has a line of it.
+    /// Whether a worker has a task of it.
     is_away: bool,
     /// Whether a look of it waits until others have read their answers.
     is_held_back: bool,
@@ -180,7 +180,7 @@ impl<J: Naming> Session<J> {
         self.lines >= LINES
     }
 
-    /// Answers a line of which it is known what is answered.
+    /// Adds an answer that doesn't depend on the site.
     pub(super) fn say(&mut self, alloc: Global, saying: Saying)
         ensures says { (result : Result Bool LineFault) × Adds (answer_text (answer_of saying)) (next_of (answer_of saying))
             self.old.outbox self.new.outbox result }
@@ -217,7 +217,7 @@ impl<J: Naming> Session<J> {
         self.go_on(said);
     }
 
-    /// Is answered by what the desk did, and has seen from then on what it published.
+    /// Takes the desk's answer to a `take`. From then on the session has seen that publish.
     pub(super) fn take_answer(&mut self, alloc: Global, answer: Answer<J>)
         ensures stamp { IfOk answer (λ done. SaysStamp done.stamp self.old.outbox self.new.outbox) }
         ensures fault { IfErr answer (λ fault. SaysFault fault self.old.outbox self.new.outbox) }
@@ -237,7 +237,7 @@ impl<J: Naming> Session<J> {
         }
     }
 
-    /// Is answered for each `take` that waits that the site has ended: it may be kept, or not.
+    /// Answers each waiting `take` that the site has ended; its body may have been kept or not.
     pub(super) fn refuse_waiting(&mut self, alloc: Global)
         ensures says { AddsEach self.old.waiting (refusal_line PortFault.Closed) self.old.outbox self.new.outbox }
         ensures waits { self.new.waiting ≡ 0 }
@@ -248,7 +248,7 @@ impl<J: Naming> Session<J> {
         self.waiting = 0;
     }
 
-    /// Is answered so many times that the site has ended.
+    /// Adds the answer that the site has ended, this many times.
     #[tactic(auto, using(crate::proofs::Rights::adds_more, crate::proofs::Rights::same_then))]
     fn refuse_times(&mut self, alloc: Global, times: usize)
         ensures says { AddsEach times (refusal_line PortFault.Closed) self.old.outbox self.new.outbox }
@@ -260,7 +260,7 @@ impl<J: Naming> Session<J> {
         }
     }
 
-    /// Is answered by a text that a worker made, and goes on or not.
+    /// Takes the text of a worker's answer; the session goes on, or ends.
     pub(super) fn take_text(&mut self, text: Vec<u8>, answered: Result<bool, LineFault>)
         ensures says { TakesText text.items answered self.old self.new }
         ensures inbox { self.new.inbox ≡ self.old.inbox }
@@ -301,7 +301,7 @@ impl<J: Naming> Session<J> {
         self.is_held_back = true;
     }
 
-    /// Waits no more until others have read their answers. Whether it did.
+    /// Ends the wait for others to read their answers. Returns whether it waited.
     pub(super) fn let_go(&mut self) -> bool
         ensures inbox { self.new.inbox ≡ self.old.inbox }
         ensures kept { (self.new.outbox ≡ self.old.outbox) × (self.new.waiting ≡ self.old.waiting) }
@@ -348,7 +348,7 @@ impl<J: Naming> Session<J> {
         self.is_closing |= is_closing;
     }
 
-    /// Goes on past a line of this size, which is done.
+    /// Skips a line of this size, which was handled.
     pub(super) fn pass(&mut self, size: usize)
         requires { size < length self.old.inbox }
         ensures inbox { self.new.inbox ≡ drop (size + 1) self.old.inbox }
@@ -446,7 +446,7 @@ impl<J: Naming> Session<J> {
         }
     }
 
-    /// Takes in what came. False where the session ends by it.
+    /// Takes the bytes that came. False if the session ends because of them.
     #[tactic(auto, using(crate::proofs::Rights::reads_came))]
     fn take_in(&mut self, came: &[u8], now: Duration) -> bool
         ensures kept { (self.new.outbox ≡ self.old.outbox) × (self.new.waiting ≡ self.old.waiting) }
@@ -464,7 +464,8 @@ impl<J: Naming> Session<J> {
         }
     }
 
-    /// Nothing came: there is nothing more to read for now, or the connection has failed, and it ends.
+    /// Handles a read without bytes: nothing more can be read for now, or the connection has failed, and the session
+    /// ends.
     fn read_nothing(&mut self, kind: ErrorKind)
         ensures inbox { self.new.inbox ≡ self.old.inbox }
         ensures kept { (self.new.outbox ≡ self.old.outbox) × (self.new.waiting ≡ self.old.waiting) }
@@ -506,7 +507,7 @@ impl<J: Naming> Session<J> {
         self.takes_more = true;
     }
 
-    /// Writes what is sent next, as much as the connection takes. Whether it may take more now.
+    /// Writes the bytes to send next, as many as the connection takes. Returns whether it may take more now.
     #[tactic(auto, using(crate::proofs::Rights::only_then))]
     fn write_next(&mut self, now: Duration) -> bool
         ensures only { OnlySends self.old self.new }
@@ -530,7 +531,7 @@ impl<J: Naming> Session<J> {
         }
     }
 
-    /// Nothing was written: the connection takes nothing for now, or it has failed, and the session ends.
+    /// Handles a failed write: the connection takes nothing for now, or it has failed, and the session ends.
     #[tactic(auto, using(crate::proofs::Rights::rest_same, crate::proofs::Rights::rest_none))]
     fn write_nothing(&mut self, kind: ErrorKind)
         ensures only { OnlySends self.old self.new }
@@ -604,7 +605,7 @@ impl<J: Naming> Session<J> {
         self.channel.shut();
     }
 
-    /// Ends where the patience with the other side is at its end.
+    /// Ends if the other side has timed out.
     pub(super) fn end_if_over(&mut self, patience: Patience, now: Duration)
         ensures none { (self.new.outbox ≡ self.old.outbox) ⊎ (self.new.outbox ≡ []) }
         ensures inbox { self.new.inbox ≡ self.old.inbox }
@@ -627,7 +628,7 @@ impl<J: Naming> Session<J> {
         }
     }
 
-    /// Ends where the patience with the other side, which takes in nothing, is at its end.
+    /// Ends if the other side, which takes none of its answers, has timed out.
     fn fail_if_stuck(&mut self, patience: Patience, now: Duration)
         ensures none { (self.new.outbox ≡ self.old.outbox) ⊎ (self.new.outbox ≡ []) }
         ensures inbox { self.new.inbox ≡ self.old.inbox }
@@ -650,12 +651,12 @@ impl<J: Naming> Session<J> {
         self.may_read || self.inbox.next_line().is_some() || self.credential() != Credential::None
     }
 
-    /// By what it asks to be let in.
+    /// The credential of the connection.
     pub(super) fn credential(&self) -> Credential {
         self.channel.credential()
     }
 
-    /// Waits for a worker to look whether it is let in by this.
+    /// Waits for a worker to check this credential.
     pub(super) fn ask_by(&mut self, credential: Credential)
         ensures inbox { self.new.inbox ≡ self.old.inbox }
         ensures kept { (self.new.outbox ≡ self.old.outbox) × (self.new.waiting ≡ self.old.waiting) }
@@ -666,8 +667,7 @@ impl<J: Naming> Session<J> {
         self.go_away();
     }
 
-    /// The key that let it in, where that has to be looked at before a line of it is done: once a second has passed
-    /// since it was looked at last.
+    /// The session's key, if it is due to be checked before the next line: a second after the last check.
     pub(super) fn due_key(&self, now: Duration) -> Option<KeyId>
         ensures { result ≡ due_key self.now.key (as_nanos self.now.key_seen) (as_nanos now) }
     {
@@ -678,7 +678,7 @@ impl<J: Naming> Session<J> {
         }
     }
 
-    /// Has from now on the role of the key that let it in, and ends where the site has no such key any more.
+    /// Takes the present role of its key, and ends if the site has no such key any more.
     pub(super) fn take_role(&mut self, role: Option<Role>, now: Duration)
         ensures role { IsTrue self.new.may_take ↔ role ≡ Some Feed }
         ensures seen { self.new.key_seen ≡ now }
@@ -694,7 +694,7 @@ impl<J: Naming> Session<J> {
         self.may_take = matches!(role, Some(Role::Feed));
     }
 
-    /// Ends where the site has no such key any more.
+    /// Ends if the site has no such key any more.
     fn end_without(&mut self, role: Option<Role>)
         ensures inbox { self.new.inbox ≡ self.old.inbox }
         ensures kept { (self.new.outbox ≡ self.old.outbox) × (self.new.waiting ≡ self.old.waiting) }
@@ -706,7 +706,8 @@ impl<J: Naming> Session<J> {
         }
     }
 
-    /// Is let in by a key: its lines are sealed from now on, the first of which has the time that a first line has.
+    /// The connection is admitted by its key: from now on its lines are sealed, and the time-out of a first line begins
+    /// again.
     pub(super) fn let_in(&mut self, admitted: Admitted, now: Duration)
         ensures role { IsTrue self.new.may_take ↔ admitted.role ≡ Feed }
         ensures kept { (self.new.outbox ≡ self.old.outbox) ⊎ (self.new.outbox ≡ []) }
@@ -724,7 +725,7 @@ impl<J: Naming> Session<J> {
         self.awaited = Awaited::FirstLine;
     }
 
-    /// Is answered that it is let in: its bytes are sealed from now on. Where memory is refused for that it ends.
+    /// Sends the answer that it is admitted, and seals its bytes from now on. If memory is refused for that, it ends.
     fn seal_by(&mut self, answer: Vec<u8>, wire: Wire)
         ensures sealed { IsSealedBy wire self.old self.new }
         ensures kept { (self.new.outbox ≡ self.old.outbox) ⊎ (self.new.outbox ≡ []) }
@@ -738,7 +739,7 @@ impl<J: Naming> Session<J> {
         }
     }
 
-    /// Isn't let in, is answered so, and ends.
+    /// The connection isn't admitted: sends the answer, and ends.
     pub(super) fn keep_out(&mut self, answer: Vec<u8>)
         ensures kept { (self.new.outbox ≡ self.old.outbox) ⊎ (self.new.outbox ≡ []) }
         ensures out { IsKeptOut self.old self.new }
@@ -775,7 +776,7 @@ impl<J: Naming> Session<J> {
     }
 }
 
-/// The key of a session that asks to be let in by this, where it had asked by that one before.
+/// The key of a session with this credential, given its key before.
 fn key_by(credential: Credential, before: Option<KeyId>) -> Option<KeyId>
     ensures { result ≡ key_by credential before }
 {

@@ -10,9 +10,9 @@ use gossip_line::LineFault;
 pub(super) enum SessionFault {
     /// 1 to 8, those of `LineFault`.
     Line(LineFault),
-    /// 10: a line isn't sealed as it has to be, or is too long.
+    /// 10: a line has a bad seal, or is too long.
     BadSeal,
-    /// 11: the first line names no key of the site's, or the key that it names is no more one of them.
+    /// 11: the first line names no key of the site, or the key was revoked.
     NoKey,
 }
 

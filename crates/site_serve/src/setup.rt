@@ -30,9 +30,9 @@ pub enum Prints {
 pub struct PageSetup {
     /// Where browsers connect to.
     pub endpoint: PageEndpoint,
-    /// What wakes who serves there.
+    /// Wakes the thread that serves there.
     pub waker: Waker,
-    /// The names by which they may call this machine, beside `localhost` and the addresses of the loopback.
+    /// The accepted host names, beside `localhost` and the loopback addresses.
     pub hosts: Vec<String>,
 }
 
@@ -54,18 +54,18 @@ pub struct Setup<'a> {
     /// The name of the file of keys that connections are sealed by, if one is named. Without one nobody is let in at a
     /// port whose connections are sealed, and no peer on another machine is reached.
     pub keys: Option<&'a str>,
-    /// The numbers of the sites whose operations it takes from its peers, beside its own; none stands for all.
+    /// The numbers of the sites whose operations it takes from its peers, beside its own; an empty list means all
+    /// sites.
     pub sites: Vec<u16>,
-    /// How many threads look at its record for sessions, from 1 to 6: none is as 1, and more are as 6.
+    /// How many worker threads answer sessions: 1 to 6; other values are clamped.
     pub workers: usize,
     /// How many milliseconds pass between two rounds of pulls.
     pub pause_ms: u64,
-    /// After how many sessions it ends; without end where that is 0.
+    /// After how many sessions the site ends; 0 means never.
     pub sessions: u64,
-    /// How many milliseconds a session that has had no body taken in may send no whole line; without end where that is
-    /// 0.
+    /// How many milliseconds a session that hasn't sent a body may send no whole line; 0 means no limit.
     pub idle_ms: u64,
-    /// How many connections may be open at once, from 1 to 65,535: none is as 1, and more are as 65,535.
+    /// How many connections may be open at once: 1 to 65,535; other values are clamped.
     pub connections: usize,
     /// What it prints.
     pub prints: Prints,
@@ -78,7 +78,7 @@ pub struct Setup<'a> {
 pub struct Served {
     /// All that it had.
     pub replica: Replica,
-    /// Whether all that it was to print was written. Where it wasn't, that was said on the error output.
+    /// Whether everything was printed. If not, that was reported on standard error.
     pub written: bool,
     /// Whether it ended because another process runs as this site, under this start or a later one.
     pub is_start_taken: bool,

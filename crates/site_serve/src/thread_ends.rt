@@ -21,7 +21,7 @@ pub struct ThreadEnds<J: Naming> {
     pub pages: OwnWindow<J>,
     /// Those that pull from the peers.
     pub pullers: Vec<Puller<J>>,
-    /// Those that look for sessions.
+    /// Those of the workers.
     pub workers: Vec<Worker<J>>,
     /// The event loop's ends of all channels.
     pub ends: LoopEnds<J>,

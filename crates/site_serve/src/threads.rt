@@ -1,5 +1,5 @@
-//! The threads of a site: its loop in this one, and beside it those that print its reports, show it to browsers, pull
-//! from its peers and look for its sessions.
+//! The threads of a site: the loop in this one, and beside it those that print reports, serve pages, pull from peers
+//! and answer sessions.
 
 ghost use Rattle.std.specs.Prelude.{◌≡◌};
 ghost use Rattle.std.specs.Thread.{IsSend, IsSync};
@@ -35,7 +35,7 @@ use std::thread;
 use std::thread::{JoinHandle, Scope, Threads};
 use std::time::{Clock, Duration};
 
-/// How many milliseconds a pull waits for each line of the peer.
+/// The time-out of a pull for each line of the peer, in milliseconds.
 const PULL_PATIENCE_MS: u64 = 10_000;
 
 /// What the threads of the page and of the pulls begin with.
@@ -158,7 +158,7 @@ where
     }
 }
 
-/// Has a thread print what the site has to say of its verdicts.
+/// Begins the thread that prints reports.
 fn begin_reports<'s, 'e, J, R, W, E, T>(
     scope: &Scope<'s, &'e ()>,
     rt: &'s R,
@@ -228,7 +228,7 @@ where
     are_begun
 }
 
-/// Has a thread look for sessions under each gate. False where the system refused one.
+/// Begins a worker thread for each gate. False if the system refused one.
 fn begin_work<'s, 'e, J, R, E, T>(
     scope: &Scope<'s, &'e ()>,
     rt: &'s R,
@@ -466,7 +466,7 @@ fn pulling_of<'a, E: Drain, T: Turn>(common: &'a Common<'_, E, T>) -> Pulling<'a
     }
 }
 
-/// Looks for sessions.
+/// Runs a worker.
 fn work<R, E, T, J>(
     rt: &R,
     common: &Common<'_, E, T>,

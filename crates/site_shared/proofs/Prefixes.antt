@@ -37,7 +37,7 @@ pub prefix_either : {A : Type 0} (xs ys zs : List A) → IsPrefix xs zs → IsPr
 prefix_either xs ys zs p q true is = let le : length xs ≤ length ys = grind (arith, nat_tests) in prefix_shorter xs ys zs p q le
 prefix_either xs ys zs p q false is = let le : length ys ≤ length xs = grind (arith, nat_tests) in prefix_shorter ys xs zs q p le
 
--- what begins a list is no longer than it
+-- a prefix of a list is no longer than the list
 pub prefix_covers : {A : Type 0} (xs ys : List A) → IsPrefix xs ys → (b : Bool) → nat_le (length xs) (length ys) ≡ b
     → b ≡ true
 prefix_covers xs ys p true is = refl

@@ -89,7 +89,7 @@ pub record GoesOn (old new : Outlook) : Type 0 where
   pub start : new.start ≡ old.start
   pub seen : IsPrefix old.seen new.seen
 
--- the receipt bears the window's own site and start
+-- the receipt has the window's own site and start
 abbrev pub BearsOwn : Outlook → Extent → Type 0
 BearsOwn window extent = (extent.site ≡ window.site) × (extent.start ≡ window.start)
 

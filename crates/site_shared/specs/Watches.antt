@@ -12,8 +12,8 @@ use Rattle.site_shared.specs.Publishes.{arrive}
 use Rattle.site_shared.specs.declared.fault.RefreshFault.{RefreshFault}
 use Rattle.site_shared.specs.declared.fault.RefreshFault.TheVariants.{Stranger, NoMemory, Closed}
 
--- of which opening a watch is, and what was seen of its publishes; the site and the start that it bears; and the
--- verdicts under a gate, unless memory was refused
+-- a watch: its opening and the publishes that it has seen; the site and the start of the opening; and the verdicts
+-- under a gate, unless memory was refused
 pub record Watched : Type 0 where
   pub book : Book
   pub seen : List (List Operation)
@@ -26,7 +26,7 @@ pub record Watched : Type 0 where
 abbrev pub KeepsUp : Watching → List Operation → Type 0
 KeepsUp watching journal = IfSome watching.verdicts (λ _. FollowsJournal watching journal)
 
--- the watch bears the window's own site and start
+-- the watch has the window's own site and start
 abbrev pub IsOwnWatch : Outlook → Watched → Type 0
 IsOwnWatch window watch = (watch.site ≡ window.site) × (watch.start ≡ window.start)
 
@@ -37,7 +37,7 @@ pub record HasVerdictsOf (publishes : List (List Operation)) (watch : Watched) :
   pub there : watch.verdicts ≡ Some judged
   pub verdicts : AreVerdicts watch.gate (state_of (arrive publishes)) judged
 
--- the watch is of the window's opening, bears its site and start, and has the verdicts under the gate on just what the
+-- the watch is of the window's opening, has its site and start, and the verdicts under the gate on exactly what the
 -- window sees
 pub record IsWatchOf (gate : GateRules) (window : Outlook) (watch : Watched) : Type 0 where
   pub own : IsOwnWatch window watch
@@ -49,7 +49,7 @@ pub record IsWatchOf (gate : GateRules) (window : Outlook) (watch : Watched) : T
 abbrev pub without_verdicts : Watched → Watched
 without_verdicts watch = record watch { verdicts = None }
 
--- the watch is of the same opening, bears the same site and start, and has the same gate
+-- the watch is of the same opening, and has the same site, start and gate
 pub record IsSameWatch (old new : Watched) : Type 0 where
   pub book : new.book ≡ old.book
   pub site : new.site ≡ old.site
@@ -73,7 +73,7 @@ pub record LacksMemory (before : Outlook) (old : Watched) (after : Outlook) (new
   pub behind : IsBehind old after.seen
   pub lost : new ≡ without_verdicts old
 
--- a watch isn't brought up to date, for it bears another site or start; else memory was refused, or the desk has ended
+-- a watch isn't brought up to date because it has another site or start; or memory was refused, or the desk has ended
 abbrev pub RefusesRefresh : Outlook → Watched → RefreshFault → Outlook → Watched → Type 0
 RefusesRefresh before old Stranger after new = (¬ IsOwnWatch before old) × (after ≡ before) × (new ≡ old)
 RefusesRefresh before old NoMemory after new = LacksMemory before old after new

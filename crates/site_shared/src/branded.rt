@@ -1,11 +1,11 @@
-//! Receipts that go from thread to thread, in messages, and say in their type of which opening they are.
+//! Receipts that are sent between threads, with the opening that they belong to in their type.
 
 ghost use Rattle.std.specs.Prelude.{◌≡◌};
 
 use crate::receipt::Receipt;
 use std::marker::{Brand, Model, PhantomData};
 
-/// Which opening it is. Each call of a program picks it, with `Brand`.
+/// A name of an opening, as a type. Each call of a program makes a new one, with `Brand`.
 pub trait Naming {
     ghost use Rattle.logbook.specs.Pages.{Book};
 

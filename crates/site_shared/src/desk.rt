@@ -1,4 +1,4 @@
-//! The one that takes in and publishes.
+//! The desk: the single writer of a running site.
 
 ghost use Rattle.std.specs.Prelude.{◌≡◌, ◌<◌, [], ◌∷◌, ◌++◌, IfErr, IfOk, None, OnErr, OnOk, Some, if◌then◌else◌};
 ghost use Rattle.std.specs.Prelude.{length};
@@ -23,9 +23,9 @@ use std::marker::Model;
 use std::mem;
 use std::sync::{Arc, Wait};
 
-/// The desk of a running site: it stamps and takes in operations, and publishes them to the windows. What it can't
-/// publish for want of memory it holds, and publishes first, with the next call that publishes. It is used up by `end`.
-/// Contracts see its account: what was published, the opening's journal first, and what is held.
+/// The desk of a running site: it stamps and takes in operations, and publishes them to the windows. If memory is
+/// refused for a publish, it holds the operations, and publishes them first with the next publish. It is used up by
+/// `end`. Contracts see its account: what was published, the opening's journal first, and what is held.
 pub struct Desk {
     show: Show,
     head: Head,
@@ -181,7 +181,7 @@ impl Desk {
         self.hold_one(op)
     }
 
-    /// What is held, in its order: what was refused for want of memory, and what was to be held.
+    /// The held operations, in their order.
     pub fn held(&self) -> &[Op]
         ensures { result.now ≡ self.now.held }
     {

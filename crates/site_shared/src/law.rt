@@ -1,4 +1,4 @@
-//! The list of publishes, which lies in proofs alone. What threads share of it is a word, its length.
+//! The list of publishes, which exists only in proofs. At run time threads share one atomic word, its length.
 
 use logbook::{Gain, Plain, Play, Rule};
 use replica_core::Replica;

@@ -1,4 +1,4 @@
-//! What holds of any publishes, as functions that do nothing: their contracts are the laws.
+//! Laws of publishes, as functions without effect: the contract of each function is a law.
 
 ghost use Rattle.std.specs.Prelude.{◌≡◌, ◌<◌, ◌||◌, [], ◌∷◌, ◌++◌, List, length, true};
 ghost use Rattle.std.specs.List.{list_any};

@@ -1,10 +1,11 @@
-//! A running site that threads share without locks: one desk takes in and publishes, up to 64 windows look beside it
-//! and never wait for it, and receipts show a window what it must have seen.
+//! A running site that threads share without locks: one desk takes in and publishes operations, up to 64 windows read
+//! beside it and never wait for it, and a receipt makes sure that a window has seen a given publish.
 //!
 //! Its tests are in the crate `site_tests`.
 //!
-//! It is a crate of its own so that it alone knows `left_right` and `logbook`. Not taken: one lock round the replica
-//! (readers would wait for the disk), and `rayon` or message passing for looks, which would copy the record for each.
+//! It is a crate of its own so that no other crate uses `left_right` and `logbook`. Not taken: one lock around the
+//! replica (readers would wait for the disk), and `rayon` or message passing for reads, which would copy the record for
+//! each.
 //!
 //! What was published is one list, which begins with the journal that the site was opened with and only grows. The
 //! desk's account is that list and what is held; each look of a window is at one prefix of the list, which goes on from

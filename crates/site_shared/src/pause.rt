@@ -3,7 +3,7 @@
 ghost use Rattle.std.specs.Prelude.{Bool};
 ghost use Rattle.site_shared.specs.Pauses.{Pauses};
 
-/// How often a pause is asked at most.
+/// How often a pause is polled at most.
 const MOST_TURNS: usize = 1_000_000;
 
 /// What a window waits for inside before it looks.
@@ -26,7 +26,7 @@ impl Pause for AtOnce {
     }
 }
 
-/// Asks a pause until it answers false, at most 1,000,000 times.
+/// Polls a pause until it returns false, at most 1,000,000 times.
 pub(crate) fn hold<P: Pause>(pause: &mut P)
     ensures { Pauses P.turns 1000000 pause.old pause.new }
 {

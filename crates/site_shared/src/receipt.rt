@@ -45,7 +45,7 @@ impl Receipt {
         self.stamp
     }
 
-    /// The site and the start that it bears.
+    /// The site and the start of its opening.
     pub fn origin(&self) -> (u16, u32)
         ensures { result ≡ (self.now.site, self.now.start) }
     {

@@ -1,4 +1,4 @@
-//! What a site shows: a replica, with the publishes that it has.
+//! What is published: a replica, with the prefix of publishes that it has.
 
 ghost use Rattle.std.specs.Prelude.{◌≡◌, IfOk};
 ghost use Rattle.std.specs.Arc.{arc_value};
@@ -32,7 +32,7 @@ impl Shown {
     }
 }
 
-/// What comes next takes the place of what is shown.
+/// The next replica replaces the present one.
 impl Absorb<Shown> for Shown {
     type State = Seen<Member, u64, Law>;
 

@@ -48,7 +48,7 @@ impl Sight {
         }
     }
 
-    /// Whether this one has seen all that another one of its list has. One of the two begins the other.
+    /// Whether this one has seen everything that another one of its list has. One of the two is a prefix of the other.
     pub fn covers(&self, other: &Sight) -> bool
         requires { other.now.seen.book ≡ self.now.seen.book }
         ensures one { MatchBool result (IsPrefix other.now.seen.log self.now.seen.log)

@@ -1,5 +1,5 @@
-//! The replicas that were shown before. The older one isn't looked at any more, so that it can be brought up and shown
-//! again.
+//! The replicas that were published before. No window reads the older one any more, so that it can be updated and
+//! published again.
 
 ghost use Rattle.std.specs.Prelude.{◌≡◌, IfOk, IfSome, Some};
 ghost use Rattle.std.specs.Arc.{arc_value};
@@ -12,7 +12,7 @@ use review_ops::Op;
 use std::alloc::Global;
 use std::sync::Arc;
 
-/// How many operations the reserve may lack to be brought up: where it lacks more a copy is made.
+/// How many operations the reserve may lack to be updated; if it lacks more, a copy is made instead.
 const LACK: usize = 4096;
 
 /// The replica that was shown before the present one, the one before that, and one for the case that a window still

@@ -1,4 +1,4 @@
-//! How what comes next is shown to windows.
+//! Publishes the next replica to the windows.
 
 ghost use Rattle.std.specs.Prelude.{◌≡◌, [], ◌∷◌, Some, drop};
 ghost use Rattle.left_right.specs.Sides.{view};

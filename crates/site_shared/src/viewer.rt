@@ -1,4 +1,4 @@
-//! Who is shown a moment of a running site.
+//! The trait of those who are shown one moment of a running site.
 
 ghost use Rattle.std.specs.Prelude.{◌≡◌, List};
 ghost use Rattle.gate_rules.specs.Rules.{GateRules};

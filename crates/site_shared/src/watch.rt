@@ -17,8 +17,7 @@ use std::marker::Model;
 use watch_core::Evaluator;
 
 /// The verdicts under a gate on what a window saw. `Window::watch` makes it, and `Window::refresh` brings it up to
-/// date. Contracts see which opening it is of, what was seen, the site and the start that it bears, the gate, and the
-/// verdicts.
+/// date. Contracts see its opening, what was seen, the site and the start of the opening, the gate, and the verdicts.
 #[derive(Drop)]
 pub struct Watch {
     evaluator: Evaluator,
@@ -76,7 +75,7 @@ impl Watch {
         self.evaluator.verdicts()
     }
 
-    /// The site and the start that it bears.
+    /// The site and the start of its opening.
     pub(crate) fn origin(&self) -> (u16, u32)
         ensures { result ≡ (self.now.site, self.now.start) }
     {

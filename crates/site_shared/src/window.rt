@@ -1,4 +1,4 @@
-//! How threads look at a running site.
+//! The windows: readers of a running site.
 
 ghost use Rattle.std.specs.Prelude.{◌≡◌, ◌⊎◌, ◌<◌, ◌↔◌, List, Err, IfErr, IfNone, IfOk, IfSome, IsOk, MatchBool};
 ghost use Rattle.std.specs.Prelude.{MatchResult, OnErr, OnOk, Some, length, nat_lt, take, true};
@@ -34,9 +34,9 @@ use std::marker::Model;
 use std::sync::Arc;
 use watch_core::Evaluator;
 
-/// A place from which one thread looks at a running site, beside the desk and the other windows. It never waits for
-/// them. Each look is at one moment: at a prefix of the publishes, which goes on from all that the window has seen and
-/// learnt before. Contracts see that prefix.
+/// A reader of a running site, for one thread, beside the desk and the other windows. It never waits for them. Each
+/// look is at one moment: at a prefix of the publishes, which goes on from all that the window has seen and learnt
+/// before. Contracts see that prefix.
 #[derive(Drop)]
 pub struct Window {
     glass: Option<Glass>,
@@ -91,8 +91,7 @@ impl Window {
     }
 
     /// Takes in a receipt: from now on the window sees no less than the publish that it was answered for. A receipt
-    /// that bears the window's own site and start comes from the window's opening; of any other one nothing is taken
-    /// in. Takes no memory.
+    /// with the window's own site and start comes from the window's opening; any other one is refused. Takes no memory.
     pub fn learn(&mut self, receipt: &Receipt) -> Result<(), Stranger>
         requires { BearsOwn self.old receipt.now → receipt.now.book ≡ self.old.book }
         ensures own { IsOk result ↔ BearsOwn self.old receipt.now }
@@ -174,10 +173,10 @@ impl Window {
         Ok(Watch::new(evaluator, sight, self.site, self.start))
     }
 
-    /// Brings a watch up to date with what the window sees, which is then no less than what the watch saw. A watch that
-    /// bears the window's own site and start comes from the window's opening; any other one is refused. Memory is
-    /// refused only where something new came, or the watch has no verdicts. It costs what `Evaluator::update` does,
-    /// over one look, without a copy of the replica.
+    /// Brings a watch up to date with what the window sees, which is then no less than what the watch saw. A watch with
+    /// the window's own site and start comes from the window's opening; any other one is refused. Memory is refused
+    /// only where something new came, or the watch has no verdicts. It costs what `Evaluator::update` does, over one
+    /// look, without a copy of the replica.
     pub fn refresh(&mut self, watch: &mut Watch) -> Result<(), RefreshFault>
         requires { IsOwnWatch self.old watch.old → watch.old.book ≡ self.old.book }
         ensures later { GoesOn self.old self.new }
@@ -228,7 +227,7 @@ impl Window {
         }
     }
 
-    /// Whether a watch bears the window's own site and start.
+    /// Whether a watch has the window's own site and start.
     fn is_own(&self, watch: &Watch) -> bool
         ensures { MatchBool result (IsOwnWatch self.now watch.now) (¬ IsOwnWatch self.now watch.now) }
     {
@@ -265,9 +264,9 @@ impl Window {
         Ok(found)
     }
 
-    /// Whether one of the operations bears the window's own site, and its start or a later one, though the journal
-    /// lacks it: then another process takes in as this site. It takes no memory, and costs O(log r + log n) for
-    /// each operation, for r rows and n operations of its row.
+    /// Whether one of the operations has the window's own site, and its start or a later one, and isn't in the journal:
+    /// then another process runs as this site. It takes no memory, and costs O(log r + log n) for each operation, for r
+    /// rows and n operations of its row.
     pub fn has_foreign(&mut self, ops: &[Op]) -> Result<bool, WindowFault>
         ensures later { GoesOn self.old self.new }
         ensures ok { IfOk result
@@ -393,7 +392,7 @@ impl Window {
     }
 }
 
-/// Whether one of the operations bears the site and the start or a later one, though the replica lacks it.
+/// Whether one of the operations has the site, and the start or a later one, and isn't in the replica.
 fn is_any_foreign(replica: &Replica, ops: &[Op], site: u16, start: u32) -> bool
     ensures { result ≡ list_any (is_foreign site start replica.now) ops.now }
 {

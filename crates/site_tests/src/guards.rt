@@ -1,4 +1,4 @@
-//! What a site lets in of a peer's answer, worked out by hand: all of it or nothing.
+//! Which answers of a peer a site accepts, worked out by hand: all operations of an answer, or none.
 
 use super::asserts::assert_found;
 use super::talks::{MEMORY, MERGE_5, port_of, replica_of};

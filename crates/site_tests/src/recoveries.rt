@@ -126,7 +126,7 @@ fn what_is_no_journal_is_refused_and_nothing_is_printed(rt: HostRuntime) {
     }
 }
 
-/// What is written to the errors where a journal is recovered to this output, and the status.
+/// What is written to standard error if a journal is recovered to this output, and the exit status.
 fn reported_to<O: Drain>(alloc: Global, output: &mut O) -> (Vec<u8>, u8) {
     let mut errors = Ends::new(Vec::new(alloc));
     let nothing = LeftOut::nothing(alloc);

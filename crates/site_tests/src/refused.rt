@@ -1,5 +1,5 @@
 //! Operations to which memory is refused: the desk holds the first so many of them, no window sees these, and the next
-//! publish has just them. A desk takes its memory from the system, which refuses none in the gate: there what a refusal
+//! publish has just them. A desk takes its memory from the system, which refuses none in CI: there what a refusal
 //! leaves held is held by hand. `bench/refuse desks` refuses each request of these tests in turn: an error ends a test
 //! then, and what has to be so after a refusal is asserted.
 

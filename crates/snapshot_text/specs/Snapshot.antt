@@ -77,7 +77,7 @@ IsLineCause text (op_fault.BadShape key) = IsRefusalOf form.Operation text (op_f
 IsLineCause text (op_fault.BadBody fault) = IsRefusalOf form.Operation text (op_fault.BadBody fault)
 IsLineCause text op_fault.NoMemory = ⊥
 
--- Which fault is first in the lines: all lines before it are as they should be. Want of memory says nothing of them.
+-- Which fault is first in the lines: all lines before it are as they should be. `NoMemory` says nothing about them.
 abbrev pub IsFirstSnapFault : List (List ℕ) → SnapFault → Type 0
 IsFirstSnapFault lines BadHeader = (first : List ℕ) (rest : List (List ℕ)) → lines ≡ first ∷ rest → ¬ IsHeader first
 IsFirstSnapFault lines (BadLine n cause) =
@@ -100,8 +100,8 @@ IsFirstSnapFault lines NoMemory = Unit {0}
 abbrev pub most_bytes : ℕ
 most_bytes = 1073741824
 
--- why a text isn't read: there is too much of it, or else its first fault. A failing source and want of memory say
--- nothing of it.
+-- why a text isn't read: there is too much of it, or else its first fault. A failed source and `NoMemory` say nothing
+-- about the text.
 abbrev pub IsRefusal : List ℕ → SnapFault → Type 0
 IsRefusal text BadHeader = (length text ≤ most_bytes) × IsFirstSnapFault (lines_of text) BadHeader
 IsRefusal text (BadLine n cause) = (length text ≤ most_bytes) × IsFirstSnapFault (lines_of text) (BadLine n cause)
@@ -112,7 +112,7 @@ IsRefusal text TooLong = most_bytes < length text
 IsRefusal text ReadFault = Unit {0}
 IsRefusal text NoMemory = Unit {0}
 
--- the fault is one of a text, or want of memory: there is not too much, and its source didn't fail
+-- the fault is one of the text, or `NoMemory`: neither `TooLong` nor a failed source
 abbrev pub IsOfText : SnapFault → Type 0
 IsOfText fault = (fault ≢ TooLong) × (fault ≢ ReadFault)
 

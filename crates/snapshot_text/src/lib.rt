@@ -2,8 +2,9 @@
 //!
 //! Its tests are in the crate `text_tests`.
 //!
-//! It is a crate of its own so that a record is exchanged as one text that says how many operations it has. Not taken:
-//! SQLite as the file (there would be a second truth beside the operations), and compression, which other programs do.
+//! It is a crate of its own so that a record is exchanged as one text that ends with the number of its operations. Not
+//! taken: an SQLite file, which would store the state a second time beside the operations, and compression, which other
+//! programs do.
 //!
 //! An example of its use:
 //!

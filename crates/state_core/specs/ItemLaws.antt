@@ -1,4 +1,4 @@
--- What the order of items says of lists that are in it.
+-- Laws of the order of items, and of lists sorted by it.
 use Rattle.std.specs.Prelude.{◌≡◌, ◌≤◌, ◌<◌, ◌&&◌, ℕ, Bool, true, false, not, List, Some, slice_get}
 use Rattle.std.specs.declared.cmp.Ordering.{Ordering}
 use Rattle.std.specs.declared.cmp.Ordering.TheVariants.{Less, Equal, Greater}
@@ -18,7 +18,7 @@ pub items_total : IsTotalOrder item_cmp
 items_total = then_total (on_total (λ (item : Item). item.change) nat_cmp_total)
     (on_total (λ (item : Item). item.set) nat_cmp_total)
 
--- items that compare alike are one
+-- items that compare equal are equal
 pub items_exact : CmpEqualImpliesEq item_cmp
 items_exact a b h = ap (λ (p : ℕ × ℕ). record { change = p.0; set = p.1 })
     (exact_pairs nat_cmp nat_cmp exact_unsigned exact_unsigned (a.change, a.set) (b.change, b.set) h)
@@ -26,7 +26,7 @@ items_exact a b h = ap (λ (p : ℕ × ℕ). record { change = p.0; set = p.1 })
 pub items_order : IsExactOrder item_cmp
 items_order = record { total = items_total; exact = items_exact }
 
--- what comes first has no greater change
+-- an item that comes first has no greater change number
 at_most_by : (r s : Ordering) (m n : ℕ) → MatchOrdering r (m < n) (m ≡ n) (n < m) → ordering_then r s ≡ Less → m ≤ n
 at_most_by Less s m n ranks e = omega (arith, ranks)
 at_most_by Equal s m n ranks e = omega (arith, ranks)
@@ -43,7 +43,7 @@ changes_rise items sorted i j x y h at_i at_j = elim (earlier_or_same i j h) [
   | inr same ↦ let e : x ≡ y = one_item items i x y at_i (subst (λ k. slice_get items k ≡ Some y) (sym same) at_j) in subst (λ z. x.change ≤ z.change) e (omega arith)
 ]
 
--- ---- what the test whether two items differ says
+-- ---- the Boolean test whether two items differ
 both_true : (p q : Bool) → not (p && q) ≡ false → (p ≡ true) × (q ≡ true)
 both_true true true is = (refl, refl)
 both_true true false is = cc

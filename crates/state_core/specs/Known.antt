@@ -27,7 +27,7 @@ is_final New = false
 is_final Abandoned = false
 is_final Merged = true
 
--- whether the change is there and is merged, as a test
+-- the Boolean form of `IsMerged`
 abbrev pub merged_in : Option Change → Bool
 merged_in None = false
 merged_in (Some change) = is_final (status_of change)

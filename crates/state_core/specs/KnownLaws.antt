@@ -1,4 +1,4 @@
--- The tests of what is known and merged say just that.
+-- The Boolean tests `merged_in` and `is_some` agree with `IsMerged` and `IsKnown`.
 use Rattle.std.specs.Prelude.{◌≡◌, ◌↔◌, ℕ, true, Option, None, Some, is_some, IsTrue}
 use Rattle.std.specs.FinMap as finite
 use Rattle.std.proofs.Common.{refl, ap, ◌∙◌, subst}
@@ -21,7 +21,7 @@ merged_of state number None stands e = absurd (false≢true e)
 merged_of state number (Some change) stands e =
     record { change = change; stands = stands; merged = final_is (status_of change) e }
 
--- the test passes just where the change is merged
+-- `merged_in` is true exactly for merged changes
 pub merged_test : (state : State) (number : ℕ) → (merged_in (finite.get state number) ≡ true) ↔ IsMerged state number
 merged_test state number =
     (merged_of state number (finite.get state number) refl, λ is. ap merged_in is.stands ∙ ap is_final is.merged)
@@ -30,7 +30,7 @@ one_change : (state : State) (number : ℕ) (a b : Change) → finite.get state 
     → finite.get state number ≡ Some b → a ≡ b
 one_change state number a b p q = cc
 
--- a change is known just where it has a current patch set
+-- a change is known exactly if it has a current patch set
 pub known_by : (state : State) (number : ℕ) (change : Change) (current : Option ℕ)
     → finite.get state number ≡ Some change → IsCurrent change current → IsTrue (is_some current) ↔ IsKnown state number
 known_by state number change None stands none = (

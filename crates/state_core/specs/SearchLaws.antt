@@ -1,4 +1,4 @@
--- What a binary search by a key finds in a list that is in the order of the key.
+-- What a binary search by a key finds in a list sorted by that key.
 use Rattle.std.proofs.Common.{◌≡◌, ◌≤◌, ◌<◌, ◌+◌, ℕ, Bool, true, false, List, Contains, Some, length, map, take, drop}
 use Rattle.std.proofs.Common.{get_or, refl, sym, ap, ◌∙◌, subst, arith, inl, inr}
 use Rattle.std.specs.Prelude.{slice_get, option_map}

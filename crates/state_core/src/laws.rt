@@ -1,4 +1,4 @@
-//! What follows for any operations, as functions that do nothing: their contracts are the laws.
+//! Laws of states, as functions without effect: the contract of each function is a law.
 
 ghost use Rattle.std.specs.Prelude.{◌≡◌, ◌++◌, List, Contains};
 ghost use Rattle.review_ops.specs.Operation.{Operation};

@@ -3,9 +3,9 @@
 //!
 //! Its tests are in the crate `record_tests`.
 //!
-//! It is a crate of its own so that judgement depends on states alone, and so equal states give equal reports by their
-//! signatures. Not taken: a `Vec` sorted by change, in which each new change moves all that follow; a hash map, whose
-//! order isn't that of reports.
+//! It is a crate of its own so that the crates that judge take a state and no journal: their signatures show that equal
+//! states give equal reports. Not taken: a `Vec` sorted by change, in which each new change moves all that follow; a
+//! hash map, whose order isn't that of reports.
 //!
 //! An example of its use:
 //!

@@ -1,4 +1,4 @@
-//! The state of a change as copies of a record share it.
+//! The state of a change, shared by the copies of a record (copy on write).
 
 ghost use Rattle.std.specs.Prelude.{◌≡◌, IfOk, OnOk, OnErr};
 ghost use Rattle.lattice_core.specs.Join.{IsBetween};
@@ -49,8 +49,7 @@ impl<A: Allocator + Copy> SharedChange<A> {
         &*self.change
     }
 
-    /// Joins the effect of an operation, as `ChangeState::take` does. It costs a copy of the state where that is
-    /// shared.
+    /// Joins the effect of an operation, as `ChangeState::take` does. If the state is shared it is copied first.
     pub(super) fn take(&mut self, op: &Op<A>) -> Result<(), NoMemory>
         ensures ok { OnOk result (self.new ≡ change_joined self.old (effect_of op.now)) }
         ensures err { OnErr result (self.new ≡ self.old) }
@@ -62,8 +61,7 @@ impl<A: Allocator + Copy> SharedChange<A> {
         change.take(op)
     }
 
-    /// Joins the effect of an operation, as `ChangeState::consume` does. It costs a copy of the state where that is
-    /// shared.
+    /// Joins the effect of an operation, as `ChangeState::consume` does. If the state is shared it is copied first.
     pub(super) fn consume(&mut self, op: Op<A>) -> Result<(), NoMemory>
         ensures ok { OnOk result (self.new ≡ change_joined self.old (effect_of op)) }
         ensures err { OnErr result (self.new ≡ self.old) }
@@ -75,8 +73,8 @@ impl<A: Allocator + Copy> SharedChange<A> {
         change.consume(op)
     }
 
-    /// Joins another state. After a refusal it lies between the old one and the join. It costs a copy of the state
-    /// where that is shared.
+    /// Joins another state. If memory is refused the state is between the old one and the join. If the state is shared
+    /// it is copied first.
     fn join_change(&mut self, other: ChangeState<A>) -> Result<(), NoMemory>
         ensures ok { OnOk result (self.new ≡ change_joined self.old other) }
         ensures err { OnErr result (IsBetween change_joined self.old self.new (change_joined self.old other)) }
@@ -90,7 +88,7 @@ impl<A: Allocator + Copy> SharedChange<A> {
         change.join(other)
     }
 
-    /// Gives it a state of its own, where others share that.
+    /// Copies the state, if it is shared.
     fn unshare(&mut self) -> Result<(), NoMemory>
         ensures { self.new ≡ self.old }
     {
@@ -100,7 +98,7 @@ impl<A: Allocator + Copy> SharedChange<A> {
         Ok(())
     }
 
-    /// The state alone, copied where others share it.
+    /// The state itself, or a copy if it is shared.
     fn into_change(self) -> Result<ChangeState<A>, NoMemory>
         ensures { IfOk result (λ change. change ≡ self) }
     {
@@ -112,7 +110,7 @@ impl<A: Allocator + Copy> SharedChange<A> {
     }
 }
 
-/// Joined as states are. A copy shares the state, which takes no memory and costs O(1).
+/// The join of the two states. A copy shares the state, takes no memory, and costs O(1).
 impl<A: Allocator + Copy> Join for SharedChange<A> {
     ghost use Rattle.change_core.specs.Change.{Change, change_joined, changes_join};
 

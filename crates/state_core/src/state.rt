@@ -13,8 +13,8 @@ use review_ops::Op;
 use std::alloc::{Allocator, Global};
 use std::marker::Model;
 
-/// The state of a review record: of each change that an operation is on, what the operations on it add up to, in
-/// whatever order they came. Contracts see a finite map from the numbers of changes.
+/// The state of a review record: for each change that has an operation, the join of the effects of its operations, in
+/// whatever order they came. Contracts see a finite map from change numbers to states.
 #[derive(Drop)]
 pub struct State<A: Allocator + Copy = Global> {
     changes: JoinMap<u32, SharedChange<A>, A>,
@@ -32,7 +32,7 @@ impl<A: Allocator + Copy> Model for State<A> {
 }
 
 impl<A: Allocator + Copy> State<A> {
-    /// The state of no operation.
+    /// The state of the empty journal.
     pub fn new(alloc: A) -> State<A>
         ensures { result ≡ empty }
     {
@@ -43,7 +43,7 @@ impl<A: Allocator + Copy> State<A> {
     }
 
     /// Joins the effect of an operation into the state of its change, in place. Where memory is refused nothing
-    /// changes. In O(log n) for n changes, beside what the change's `take` costs.
+    /// changes. It costs O(log n) for n changes, and what the change's `take` costs.
     pub fn take(&mut self, op: &Op<A>) -> Result<(), NoMemory>
         ensures ok { OnOk result (self.new ≡ with_effect self.old op.now) }
         ensures err { OnErr result (self.new ≡ self.old) }
@@ -51,9 +51,9 @@ impl<A: Allocator + Copy> State<A> {
         join_effect(&mut self.changes, self.alloc, op)
     }
 
-    /// Joins the effect of an operation into the state of its change, as `take` does, and keeps the texts of the
-    /// operation itself. Where memory is refused nothing changes but that the operation is dropped. It costs what
-    /// `take` costs but for the copies of texts.
+    /// Joins the effect of an operation into the state of its change, as `take` does, but moves the operation's texts
+    /// instead of copying them. If memory is refused the state is unchanged, and the operation is dropped. It costs
+    /// what `take` costs, without the copies of texts.
     pub fn consume(&mut self, op: Op<A>) -> Result<(), NoMemory>
         ensures ok { OnOk result (self.new ≡ with_effect self.old op) }
         ensures err { OnErr result (self.new ≡ self.old) }
@@ -61,7 +61,8 @@ impl<A: Allocator + Copy> State<A> {
         consume_effect(&mut self.changes, self.alloc, op)
     }
 
-    /// The state of a change, if an operation is on it. In O(log n) for n changes, as `is_known` and `is_merged`.
+    /// The state of a change, if it has an operation. It costs O(log n) for n changes, as `is_known` and `is_merged`
+    /// do.
     pub fn change(&self, number: u32) -> Option<&ChangeState<A>>
         ensures { option_copied result ≡ get self.now number }
     {
@@ -71,7 +72,7 @@ impl<A: Allocator + Copy> State<A> {
         }
     }
 
-    /// The state of each change that an operation is on, in the order of their numbers.
+    /// The state of each change that has an operation, by change number.
     pub fn changes(&self) -> &JoinMap<u32, SharedChange<A>, A>
         ensures { state_shown result.now ≡ self.now }
     {
@@ -88,7 +89,7 @@ impl<A: Allocator + Copy> State<A> {
         }
     }
 
-    /// Whether a change is merged, known or not.
+    /// Whether a change is merged, whether or not one of its patch sets is known.
     pub fn is_merged(&self, number: u32) -> bool
         ensures meaning { IsTrue result ↔ IsMerged self.now number }
         ensures test { result ≡ merged_in (get self.now number) }
@@ -96,7 +97,7 @@ impl<A: Allocator + Copy> State<A> {
         self.has_merged(number)
     }
 
-    /// Whether the change is known, and merged.
+    /// Whether the state has the change as merged.
     fn has_merged(&self, number: u32) -> bool
         ensures { result ≡ merged_in (get self.now number) }
     {
@@ -112,8 +113,8 @@ impl<A: Allocator + Copy> State<A> {
     }
 }
 
-/// Joined change by change. After a refusal the state lies between the old one and the join. A copy shares the states
-/// of changes, so that it costs O(n) for n changes, however much is in them.
+/// The join of two states, change by change. If memory is refused the state is between the old one and the join. A copy
+/// shares the states of changes, so it costs O(n) for n changes, whatever their size.
 impl<A: Allocator + Copy> Join for State<A> {
     ghost use Rattle.lattice_core.specs.Keep.{numbers_exact};
     ghost use Rattle.lattice_core.specs.JoinMap.{maps_join};

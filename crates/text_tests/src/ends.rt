@@ -40,14 +40,15 @@ fn assert_read(rt: &impl Abort, alloc: Global, text: &[u8], limit: usize) {
     assert_found(rt, failures, 0);
 }
 
-// A body that only answers want of memory meets the contract of `read_all`: with ample memory the bytes come.
+// A body that always returns `NoMemory` would meet the contract of `read_all`: this shows that with enough memory the
+// bytes come.
 #[test]
 fn reads_all_within_the_limit(rt: HostRuntime) {
     assert_read(&rt, rt.alloc(), b"abc".as_slice(), 3);
     assert_read(&rt, rt.alloc(), b"".as_slice(), 0);
 }
 
-// A source that is lent is one too.
+// A borrowed source is a source, too.
 #[test]
 fn reads_all_of_a_lent_source(rt: HostRuntime) {
     let mut lent = Ends::new(b"abc".as_slice());
@@ -215,7 +216,7 @@ fn assert_written(rt: &impl Abort, drain: BrokenDrain, wanted: &[u8]) {
     assert_found(rt, written.as_slice(), wanted);
 }
 
-/// What writing nothing to a drain that is lent gives.
+/// The result of writing no bytes to a borrowed drain.
 fn write_nothing(drain: &mut BrokenDrain) -> Result<(), Failed> {
     write_all(&mut &mut *drain, b"")
 }

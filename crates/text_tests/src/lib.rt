@@ -1,6 +1,6 @@
-//! Tests of the texts that are read and printed: footers, operations, snapshots, scripts, what scripts print, reports,
-//! what changed from one report to the next, states, and Gerrit's events, through the public functions of their crates.
-//! A crate of tests alone, as `record_tests` is.
+//! Tests of the texts that the program reads and prints: footers, operations, snapshots, scripts and their output,
+//! reports, changes between reports, states, and Gerrit's events, through the public functions of their crates. A crate
+//! of tests alone, as `record_tests` is.
 #![tactic(auto)]
 
 #[cfg(test)]

@@ -2,9 +2,9 @@
 //!
 //! Its tests are in the crate `serve_tests`.
 //!
-//! It is a crate of its own so that what makes lines knows nothing of clocks: `Timed` stands between it and the end
-//! that the lines are written to. The time is written as `jiff` writes it. Not taken: the crate `log`, whose records
-//! have no number, and local time, which two machines read differently.
+//! It is a crate of its own so that the code that makes lines needs no clock: `Timed` wraps the drain that the lines
+//! are written to. The time is written as `jiff` writes it. Not taken: the crate `log`, whose records have no number,
+//! and local time, which differs from machine to machine.
 //!
 //! An example of its use:
 //!

@@ -1,4 +1,4 @@
-//! For tests: verdicts as lines, where a refusal ends in its rank.
+//! For tests: verdicts as text, one item a line, each refusal with its rank.
 //!
 //! An example of its use:
 //!

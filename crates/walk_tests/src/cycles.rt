@@ -1,4 +1,4 @@
-//! Cycles that were found by hand, and a slow plain program beside the search.
+//! Graphs with known cycles, and a slow plain program that the search is compared with.
 
 use super::digraphs::{graph_of, next_below, some_edges};
 use lattice_core::NoMemory;

@@ -1,5 +1,5 @@
-//! Tests of `walk_core` through its public functions: distances, cycles, orders, and what is reached, beside slow plain
-//! programs, and with each request for memory refused in turn. A crate of tests alone, as `record_tests` is.
+//! Tests of `walk_core` through its public functions: distances, cycles, orders and reachability, compared with slow
+//! plain programs, and with each allocation failing in turn. A crate of tests alone, as `record_tests` is.
 #![tactic(auto)]
 
 #[cfg(test)]

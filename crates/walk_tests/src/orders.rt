@@ -1,4 +1,4 @@
-//! Orders that were found by hand, and a slow plain program beside the marks.
+//! Graphs with known orders, and a slow plain program that the order is compared with.
 
 use super::cycles::{numbered_edges, relax};
 use super::digraphs::{graph_of, next_below, some_edges};

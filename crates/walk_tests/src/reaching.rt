@@ -1,4 +1,4 @@
-//! What leads to marked nodes and what is reached from them, beside slow plain searches over small graphs.
+//! Reachability in both directions, compared with slow plain searches over small graphs.
 
 ghost use Rattle.std.specs.Prelude.{◌≡◌, ◌<◌, IfOk, length};
 

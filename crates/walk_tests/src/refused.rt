@@ -1,4 +1,4 @@
-//! Searches whose requests for memory are refused in turn: each is reported, and all memory is given back.
+//! Searches in which each allocation fails in turn: each failure is reported, and all memory is freed.
 
 use super::cycles::flags_of;
 use super::digraphs::graph_of;

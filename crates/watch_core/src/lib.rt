@@ -1,10 +1,11 @@
-//! Verdicts that follow a replica. What stays as it is when operations come to a record: of changes without a new
-//! operation all that a gate asks of them, and of items that don't reach a change with one their verdicts.
+//! Verdicts that are kept up to date with a replica. When operations come, a change without a new operation keeps what
+//! the gate asks of it by itself, and an item from which no change with a new operation can be reached keeps its
+//! verdict.
 //!
 //! Its tests are in the crate `watch_tests`.
 //!
-//! It is a crate of its own so that keeping verdicts up to date can be wrong nowhere else: what it keeps equals an
-//! evaluation of the whole. Not taken: an evaluation of the whole record for each publish, and caches of single
+//! It is a crate of its own so that incremental evaluation has one contract: the verdicts that it keeps equal an
+//! evaluation of the whole record. Not taken: an evaluation of the whole record for each publish, and caches of single
 //! conditions, since most of an evaluation's time goes into the graph.
 //!
 //! An example of its use:

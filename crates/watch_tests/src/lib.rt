@@ -1,5 +1,5 @@
-//! Tests of `watch_core` through its public functions: histories with the verdicts after each part, and random ones
-//! beside evaluations of the whole record. A crate of tests alone, as `record_tests` is.
+//! Tests of `watch_core` through its public functions: histories with the expected verdicts after each part, and random
+//! ones compared with evaluations of the whole record. A crate of tests alone, as `record_tests` is.
 #![tactic(auto)]
 
 #[cfg(test)]

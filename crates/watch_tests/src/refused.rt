@@ -1,6 +1,6 @@
 //! Updates to which memory is refused: there are no verdicts then, and the update made again gives those of the whole
-//! record. An evaluator takes its memory from the system, which refuses none in the gate; `bench/refuse updates`
-//! refuses each request in turn.
+//! record. An evaluator takes its memory from the system, which refuses none in CI; `bench/refuse updates` refuses each
+//! request in turn.
 
 ghost use Rattle.std.specs.Prelude.{IfSome};
 ghost use Rattle.watch_core.specs.Watching.{FollowsJournal, Precedes};

@@ -1,10 +1,10 @@
-//! Why an item is left out: the items that wait for each other, down to the cause, and then what is asked and what is
-//! there.
+//! Why an item is left out: the chain of items that wait for each other, down to the cause, then what the gate file
+//! asks there and what the change has.
 //!
 //! Its tests are in the crate `gate_tests`.
 //!
-//! It is a crate of its own since it needs the gate file's own bytes, which judgement doesn't. Not taken: the whole
-//! tree of causes in place of one chain, which at a big record nobody reads (`graph` draws it).
+//! It is a crate of its own because it needs the bytes of the gate file, which the crates that judge don't. Not taken:
+//! the whole tree of causes instead of one chain, which is too long to read for a large record (`graph` draws it).
 //!
 //! An example of its use:
 //!

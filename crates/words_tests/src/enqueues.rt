@@ -1,4 +1,4 @@
-//! What the words of `enqueue` ask for.
+//! What the arguments of `enqueue` ask for.
 
 use command_line::{Asked, EnqueueWords, read_words};
 use std::alloc::Global;

@@ -1,4 +1,4 @@
-//! Feeds that words ask for.
+//! What the arguments of `events` ask for.
 
 use command_line::{Answer, Asked, EventWords, read_words};
 use site_address::{Address, HostPort, PeerAddress};

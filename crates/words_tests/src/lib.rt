@@ -1,5 +1,5 @@
-//! Tests of the words of command lines: what they ask for, and each text that is answered in its place. A crate of
-//! tests alone, as `record_tests` is.
+//! Tests of command lines: what their arguments ask for, and the texts of help and of usage errors. A crate of tests
+//! alone, as `record_tests` is.
 #![tactic(auto)]
 
 #[cfg(test)]

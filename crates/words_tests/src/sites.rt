@@ -1,4 +1,4 @@
-//! Sites that words ask for.
+//! What the arguments of `serve` ask for.
 
 use command_line::{Asked, PageAddress, Printing, ServeWords, SocketMode, read_words};
 use site_address::{Address, HostPort, PeerAddress, address_of, host_port_of, peer_of};

@@ -1,10 +1,11 @@
-//! A world of sites that take in operations and pass them on in packets, which may be lost, repeated or reordered.
+//! A world of sites that take in operations and send them to each other in packets, which may be lost, repeated or
+//! reordered.
 //!
 //! Its tests are in the crate `record_tests`.
 //!
 //! It is a crate of its own so that sites and a network that loses, repeats and reorders are one machine, over which
 //! the theorem is stated. Not taken: random runs as the test of convergence (they are tests beside the proof); a model
-//! of time, of which nothing is promised.
+//! of time, since nothing is promised about time.
 //!
 //! An example of its use:
 //!

@@ -75,9 +75,9 @@ impl<A: Allocator + Copy> World<A> {
         self.machine.step(event)
     }
 
-    /// Lets events happen in order, and answers what each answered. Want of memory for the answers comes before the
-    /// first event, and changes nothing. Whatever run of events led to the world, the world converges on that run and
-    /// these events.
+    /// Lets events happen in order, and answers what each answered. Memory for the answers is allocated before the
+    /// first event; if it is refused nothing changes. Whatever run of events led to the world, the world converges on
+    /// that run and these events.
     pub fn run(
         &mut self,
         events: Vec<Event<A>, A>,

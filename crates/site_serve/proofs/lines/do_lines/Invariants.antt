@@ -4,8 +4,8 @@ use Rattle.site_serve.specs.Acknowledged.{AddsOwn, session_at}
 use Rattle.site_serve.specs.Doing.{DoesSteps}
 use Rattle.site_serve.proofs.lines.do_lines.Given as goal
 
--- nobody else was added to those who wait, nothing was answered before what was asked earlier, and so many steps were
--- made
+-- no other asker was added to those who wait, nothing was answered before what was asked earlier, and this many steps
+-- were made
 abbrev pub invariant-loop : goal.invariant-loop
 invariant-loop g l =
     AddsOwn (session_at l.fn.context.place l.fn.context.number) l.initial.group.waiters l.group.waiters
