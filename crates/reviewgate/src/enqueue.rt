@@ -1,4 +1,4 @@
-//! Hands the items that became ready to Zuul.
+//! Runs the command `enqueue`.
 
 use super::projects::read_projects;
 use byte_ends::{Drain, Source};
@@ -16,7 +16,7 @@ use std::alloc::{AllocError, Global};
 /// How many bytes the answer of a query, and the list of items that were handed over, may have: 1 GiB.
 const FILE_LIMIT: usize = 1_073_741_824;
 
-/// What items are handed over with, once the files are read.
+/// The settings of `enqueue`, once its files are read.
 #[derive(Drop)]
 struct Order {
     template: Template,
@@ -33,8 +33,8 @@ enum Stopped<'n> {
     Enqueue(EnqueueFault),
 }
 
-/// Hands over the items that become ready in the reports of the input, as the words ask for. Answers the exit status: 0
-/// at the end of the input, else 1.
+/// Runs `enqueue`: writes a line for each item that becomes ready in the reports of the input. Returns the exit status:
+/// 0 at the end of the input, else 1.
 pub fn enqueue<I: Source, O: Drain, E: Drain, N: Named>(
     alloc: Global,
     words: EnqueueWords<'_>,
@@ -67,7 +67,7 @@ pub fn enqueue<I: Source, O: Drain, E: Drain, N: Named>(
     }
 }
 
-/// Reads the template, and then the files that the words name.
+/// Parses the template, and then reads the files that the arguments name.
 fn read_order<'n, C: Console>(
     alloc: Global,
     words: &EnqueueWords<'n>,

@@ -1,4 +1,4 @@
-//! Feeds what Gerrit writes to a session.
+//! Runs the command `events`.
 
 ghost use Rattle.std.specs.Prelude.{◌≡◌, ◌++◌, IfOk, codes, string_bytes};
 ghost use Rattle.refusal_line.specs.Line.{line_of};
@@ -26,7 +26,7 @@ use std::sync::Wait;
 use std::thread::Threads;
 use std::time::Clock;
 
-/// What a feed is run with, once its files are read.
+/// The settings of a feed, once its files are read.
 #[derive(Drop)]
 struct Choice<'n> {
     to: Option<PeerAddress<'n>>,
@@ -37,8 +37,8 @@ struct Choice<'n> {
     bases: Option<Bases>,
 }
 
-/// Feeds what Gerrit writes as the words ask for: to the site at an address, or else to the output. Answers the exit
-/// status: 0 at the end of the input, 1 where a file is refused or the feed ended before.
+/// Runs `events`: feeds Gerrit's lines to the site at an address, or else writes the lines of a session to the output.
+/// Returns the exit status: 0 at the end of the input, 1 if a file is refused or the feed ended early.
 pub fn feed<R, I, O, E>(
     rt: R,
     alloc: Global,
@@ -65,7 +65,7 @@ where
     }
 }
 
-/// Reads the files that the words name: the projects, and then the gate.
+/// Reads the files that the arguments name: the projects, and then the gate.
 fn read_choice<'n, I: Source, O: Drain, N: Named>(
     alloc: Global,
     words: EventWords<'n>,
@@ -113,8 +113,7 @@ fn read_bases<'n, C: Console>(
     }
 }
 
-/// Reads Gerrit's lines from the input, and writes what a client of a session says of them to the output, and what is
-/// lost of them to the errors.
+/// Reads Gerrit's lines from the input, and writes the lines of a session to the output, and losses to standard error.
 fn events<I: Source, O: Drain, E: Drain>(
     alloc: Global,
     choice: Choice<'_>,
@@ -137,8 +136,8 @@ fn events<I: Source, O: Drain, E: Drain>(
     }
 }
 
-/// Reads Gerrit's lines from the input, and feeds them to the site at an address, and writes what has to be asked for
-/// to the output, and what is lost of them to the errors. The key of an address on another machine is read first.
+/// Reads Gerrit's lines from the input, feeds them to the site at an address, and writes the changes to query to the
+/// output, and losses to standard error. If the address is on another machine, its key is read first.
 fn events_to<R, I, O, E>(
     rt: R,
     alloc: Global,

@@ -34,7 +34,7 @@ use std::time::Clock;
 use std::{env, io};
 use timed_lines::{SystemMoments, Timed};
 
-/// What is wrong with words that are no text.
+/// The usage error of arguments that aren't UTF-8.
 const NOT_TEXT: &str = "error: the words have to be UTF-8\n";
 
 fn main(rt: HostRuntime) -> ExitCode {
@@ -75,7 +75,7 @@ fn main(rt: HostRuntime) -> ExitCode {
     ExitCode::from(status)
 }
 
-/// Does what the words ask for, where that isn't a command with a function of its own here. Answers the status.
+/// Runs every command line except `serve`, `events`, `enqueue` and `recover`. Returns the exit status.
 fn run<R, E>(rt: R, alloc: Global, asked: Asked<'_>, errors: &mut E) -> u8
 where
     R: Input + Print + Files + Net<Stream = TcpStream> + Clock + Threads,
@@ -92,7 +92,7 @@ where
     )
 }
 
-/// Hands items to Zuul as the words ask for. Answers the status.
+/// Runs `enqueue`. Returns the exit status.
 fn hand_over<R, E>(rt: R, alloc: Global, words: EnqueueWords<'_>, errors: &mut E) -> u8
 where
     R: Input + Print + Files + Net<Stream = TcpStream> + Clock + AllocGlobal + Copy + Drop,
@@ -108,7 +108,7 @@ where
     )
 }
 
-/// Recovers a journal as the words ask for. Answers the status.
+/// Runs `recover`. Returns the exit status.
 fn recover<R, E>(rt: R, alloc: Global, words: RecoverWords<'_>, errors: &mut E) -> u8
 where
     R: Input + Print + Files + Drop,
@@ -131,7 +131,7 @@ where
     )
 }
 
-/// Runs a site as the words ask for, and reports how it ended. Answers the status.
+/// Runs `serve`, and reports how it ended. Returns the exit status.
 fn serve_reported<R, I, N, E, L, F>(
     rt: R,
     alloc: Global,
@@ -156,7 +156,7 @@ where
     report_site(alloc, ended, last)
 }
 
-/// Reports how `serve` ended. Answers the status: 0 where it ended in order, else 1.
+/// Reports how `serve` ended. Returns the exit status: 0 after an orderly end, else 1.
 fn report_site<E: Drain>(alloc: Global, ended: Ended<'_>, errors: &mut E) -> u8 {
     match ended {
         Ended::Well => 0,
@@ -172,18 +172,18 @@ fn report_site<E: Drain>(alloc: Global, ended: Ended<'_>, errors: &mut E) -> u8 
     }
 }
 
-/// Writes the line of a site's fault, and answers its status.
+/// Writes the line of a site's fault. Returns the exit status.
 fn report_fault<E: Drain>(alloc: Global, number: u8, name: &str, errors: &mut E) -> u8 {
     show_line(&refusal_line(alloc, Part::Serve, number, name), errors);
     1
 }
 
-/// The words of the command line after the program's name.
+/// The arguments after the program's name.
 fn words_of<R: Env + AllocGlobal>(rt: &R) -> io::Result<Vec<String>> {
     Ok(env::args(rt)?.skip(1).collect(rt.alloc())?)
 }
 
-/// Reports that the words can't be had: memory was refused, or one of them isn't UTF-8. Answers the status.
+/// Reports why the arguments can't be read: memory was refused, or one of them isn't UTF-8. Returns the exit status.
 fn report_words<E: Drain>(alloc: Global, error: &io::Error, errors: &mut E) -> u8 {
     if error.kind() == ErrorKind::OutOfMemory {
         return report(alloc, &Err(Refusal::Memory), errors);
