@@ -7,5 +7,6 @@ mod Braces
 mod Readings
 mod Rows
 mod Adding
+mod Ends
 mod Stream
 mod HandingOver

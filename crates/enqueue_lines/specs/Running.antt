@@ -102,6 +102,17 @@ pub record KnownEnds : Type 0 where
   pub unread : ℕ
   pub outputs : KnownOutputs
 
+abbrev pub outputs_at : Option (List ℕ) → ℕ → Option (List ℕ) → ℕ → KnownOutputs
+outputs_at printed unprinted reported unreported = record {
+  printed = printed;
+  unprinted = unprinted;
+  reported = reported;
+  unreported = unreported;
+}
+
+abbrev pub ends_at : Option (List ℕ) → ℕ → KnownOutputs → KnownEnds
+ends_at left unread outputs = record { left = left; unread = unread; outputs = outputs }
+
 -- these lines and these reports were written, and no write failed
 pub record WritesTexts (lines reports : List ℕ) (old new : KnownOutputs) : Type 0 where
   pub printed : Appends old.printed new.printed lines

@@ -8,7 +8,7 @@ ghost use Rattle.enqueue_lines.specs.Ending.{SendsLines, SendsTexts, TakesLine, 
 ghost use Rattle.enqueue_lines.specs.Groups.{Fits, ReadySoFar, fresh, ready_first, ready_after, told_by};
 ghost use Rattle.enqueue_lines.specs.Lines.{NumbersFit, LineSays};
 ghost use Rattle.enqueue_lines.specs.Printing.{pipe_shown};
-ghost use Rattle.enqueue_lines.specs.Running.{IsSaidAs, KeepsSaid};
+ghost use Rattle.enqueue_lines.specs.Running.{IsSaidAs, KeepsSaid, ends_at, outputs_at};
 ghost use Rattle.enqueue_lines.specs.declared.said.Said.{Said};
 
 use super::fault::EnqueueFault;
@@ -61,26 +61,10 @@ pub fn hand_over<S: Source, O: Drain, E: Drain>(
 ) -> Result<(), EnqueueFault>
     // All groups were handed over; or one wasn't: then it is stated why, and what of it was written.
     ensures { HandsAll (pipe_shown pipeline.now) earlier
-        (record {
-          left = S.left source.old;
-          unread = S.failed source.old;
-          outputs = record {
-            printed = O.taken output.old;
-            unprinted = O.failed output.old;
-            reported = E.taken errors.old;
-            unreported = E.failed errors.old;
-          };
-        })
-        (record {
-          left = S.left source.new;
-          unread = S.failed source.new;
-          outputs = record {
-            printed = O.taken output.new;
-            unprinted = O.failed output.new;
-            reported = E.taken errors.new;
-            unreported = E.failed errors.new;
-          };
-        }) result }
+        (ends_at (S.left source.old) (S.failed source.old)
+        (outputs_at (O.taken output.old) (O.failed output.old) (E.taken errors.old) (E.failed errors.old)))
+        (ends_at (S.left source.new) (S.failed source.new)
+        (outputs_at (O.taken output.new) (O.failed output.new) (E.taken errors.new) (E.failed errors.new))) result }
 {
     let Ok(mut reader) = LineReader::new(alloc, LINE_LIMIT) else {
         return Err(EnqueueFault::NoMemory);
@@ -120,26 +104,10 @@ fn hand_group<S: Source, O: Drain, E: Drain>(
     ensures hands { (came : List ℕ) × Consumes (S.left source.old) (S.left source.new) came
         × HandsGroup (pipe_shown pipeline.now) reader.old.limit (reader.old.held ++ came) reader.new.held
         number.old number.new handing.old handing.new
-        (record {
-          left = S.left source.old;
-          unread = S.failed source.old;
-          outputs = record {
-            printed = O.taken output.old;
-            unprinted = O.failed output.old;
-            reported = E.taken errors.old;
-            unreported = E.failed errors.old;
-          };
-        })
-        (record {
-          left = S.left source.new;
-          unread = S.failed source.new;
-          outputs = record {
-            printed = O.taken output.new;
-            unprinted = O.failed output.new;
-            reported = E.taken errors.new;
-            unreported = E.failed errors.new;
-          };
-        }) result }
+        (ends_at (S.left source.old) (S.failed source.old)
+        (outputs_at (O.taken output.old) (O.failed output.old) (E.taken errors.old) (E.failed errors.old)))
+        (ends_at (S.left source.new) (S.failed source.new)
+        (outputs_at (O.taken output.new) (O.failed output.new) (E.taken errors.new) (E.failed errors.new))) result }
     ensures limit { reader.new.limit ≡ reader.old.limit }
 {
     let mut coming = Coming {
@@ -182,18 +150,8 @@ fn give<O: Drain, E: Drain>(
     errors: &mut E,
 ) -> Result<bool, EnqueueFault>
     ensures { Gives (pipe_shown pipeline.now) (told_by coming.now.lines.items) ready number handing.old handing.new
-        (record {
-          printed = O.taken output.old;
-          unprinted = O.failed output.old;
-          reported = E.taken errors.old;
-          unreported = E.failed errors.old;
-        })
-        (record {
-          printed = O.taken output.new;
-          unprinted = O.failed output.new;
-          reported = E.taken errors.new;
-          unreported = E.failed errors.new;
-        }) result }
+        (outputs_at (O.taken output.old) (O.failed output.old) (E.taken errors.old) (E.failed errors.old))
+        (outputs_at (O.taken output.new) (O.failed output.new) (E.taken errors.new) (E.failed errors.new)) result }
 {
     match taken(alloc, handing, coming, number, ready) {
         Ok(items) => match write_items(alloc, pipeline, items.as_slice(), output, errors) {
@@ -347,18 +305,8 @@ fn write_items<O: Drain, E: Drain>(
     errors: &mut E,
 ) -> Result<(), EnqueueFault>
     ensures { SendsItems (pipe_shown pipeline.now) items.now
-        (record {
-          printed = O.taken output.old;
-          unprinted = O.failed output.old;
-          reported = E.taken errors.old;
-          unreported = E.failed errors.old;
-        })
-        (record {
-          printed = O.taken output.new;
-          unprinted = O.failed output.new;
-          reported = E.taken errors.new;
-          unreported = E.failed errors.new;
-        }) result }
+        (outputs_at (O.taken output.old) (O.failed output.old) (E.taken errors.old) (E.failed errors.old))
+        (outputs_at (O.taken output.new) (O.failed output.new) (E.taken errors.new) (E.failed errors.new)) result }
 {
     match pipeline.texts_of(alloc, items) {
         Ok(texts) => send_both(
@@ -379,18 +327,8 @@ fn send_both<O: Drain, E: Drain>(
     errors: &mut E,
 ) -> Result<(), EnqueueFault>
     ensures { SendsTexts lines.now reports.now
-        (record {
-          printed = O.taken output.old;
-          unprinted = O.failed output.old;
-          reported = E.taken errors.old;
-          unreported = E.failed errors.old;
-        })
-        (record {
-          printed = O.taken output.new;
-          unprinted = O.failed output.new;
-          reported = E.taken errors.new;
-          unreported = E.failed errors.new;
-        }) result }
+        (outputs_at (O.taken output.old) (O.failed output.old) (E.taken errors.old) (E.failed errors.old))
+        (outputs_at (O.taken output.new) (O.failed output.new) (E.taken errors.new) (E.failed errors.new)) result }
 {
     match send(output, lines) {
         Ok(()) => send(errors, reports),

@@ -3,31 +3,14 @@ use Rattle.enqueue_lines.specs.Printing.{pipe_shown}
 use Rattle.enqueue_lines.specs.Running.{GroupComes, KnownEnds}
 use Rattle.enqueue_lines.specs.declared.fault.EnqueueFault.{EnqueueFault}
 use Rattle.enqueue_lines.specs.declared.fault.EnqueueFault.TheVariants.{NoEnd}
+use Rattle.enqueue_lines.proofs.Ends.{ends_of}
 use Rattle.enqueue_lines.proofs.HandingOver.{group_broken, group_given, group_lacking}
 use Rattle.enqueue_lines.proofs.run.hand_group.Goals as goal
 
 pub returns-in-Ok-Some-clause-hands : goal.returns-in-Ok-Some-clause-hands
 returns-in-Ok-Some-clause-hands g c =
-    let before : KnownEnds = record {
-      left = g.S.Source.left c.args.source.now;
-      unread = g.S.Source.failed c.args.source.now;
-      outputs = record {
-        printed = g.O.Drain.taken c.args.output.now;
-        unprinted = g.O.Drain.failed c.args.output.now;
-        reported = g.E.Drain.taken c.args.errors.now;
-        unreported = g.E.Drain.failed c.args.errors.now;
-      };
-    } in
-    let after : KnownEnds = record {
-      left = g.S.Source.left c.read_group.new.source;
-      unread = g.S.Source.failed c.read_group.new.source;
-      outputs = record {
-        printed = g.O.Drain.taken c.give.new.output;
-        unprinted = g.O.Drain.failed c.give.new.output;
-        reported = g.E.Drain.taken c.give.new.errors;
-        unreported = g.E.Drain.failed c.give.new.errors;
-      };
-    } in
+    let before : KnownEnds = ends_of g.S.Source g.O.Drain g.E.Drain c.args.source.now c.args.output.now c.args.errors.now in
+    let after : KnownEnds = ends_of g.S.Source g.O.Drain g.E.Drain c.read_group.new.source c.give.new.output c.give.new.errors in
     let comes = c.in-Ok-Some.ensures.comes in
     let bytes = c.args.reader.now.held ++ comes.0 in
     let group = subst (GroupComes bytes c.read_group.new.reader.held c.read_group.new.coming.lines.items c.read_group.new.coming.count) c.in-Ok-Some.field-0-is comes.2.0 in (
@@ -40,26 +23,8 @@ returns-in-Ok-Some-clause-hands g c =
 
 pub returns-in-Ok-None-clause-hands : goal.returns-in-Ok-None-clause-hands
 returns-in-Ok-None-clause-hands g c =
-    let before : KnownEnds = record {
-      left = g.S.Source.left c.args.source.now;
-      unread = g.S.Source.failed c.args.source.now;
-      outputs = record {
-        printed = g.O.Drain.taken c.args.output.now;
-        unprinted = g.O.Drain.failed c.args.output.now;
-        reported = g.E.Drain.taken c.args.errors.now;
-        unreported = g.E.Drain.failed c.args.errors.now;
-      };
-    } in
-    let after : KnownEnds = record {
-      left = g.S.Source.left c.read_group.new.source;
-      unread = g.S.Source.failed c.read_group.new.source;
-      outputs = record {
-        printed = g.O.Drain.taken c.args.output.now;
-        unprinted = g.O.Drain.failed c.args.output.now;
-        reported = g.E.Drain.taken c.args.errors.now;
-        unreported = g.E.Drain.failed c.args.errors.now;
-      };
-    } in
+    let before : KnownEnds = ends_of g.S.Source g.O.Drain g.E.Drain c.args.source.now c.args.output.now c.args.errors.now in
+    let after : KnownEnds = ends_of g.S.Source g.O.Drain g.E.Drain c.read_group.new.source c.args.output.now c.args.errors.now in
     let comes = c.in-Ok-None.ensures.comes in
     let bytes = c.args.reader.now.held ++ comes.0 in
     let group = subst (GroupComes bytes c.read_group.new.reader.held c.read_group.new.coming.lines.items c.read_group.new.coming.count) c.in-Ok-None.field-0-is comes.2.0 in
@@ -76,26 +41,8 @@ returns-in-Ok-None-clause-hands g c =
 
 pub returns-clause-hands : goal.returns-clause-hands
 returns-clause-hands g c =
-    let before : KnownEnds = record {
-      left = g.S.Source.left c.args.source.now;
-      unread = g.S.Source.failed c.args.source.now;
-      outputs = record {
-        printed = g.O.Drain.taken c.args.output.now;
-        unprinted = g.O.Drain.failed c.args.output.now;
-        reported = g.E.Drain.taken c.args.errors.now;
-        unreported = g.E.Drain.failed c.args.errors.now;
-      };
-    } in
-    let after : KnownEnds = record {
-      left = g.S.Source.left c.read_group.new.source;
-      unread = g.S.Source.failed c.read_group.new.source;
-      outputs = record {
-        printed = g.O.Drain.taken c.args.output.now;
-        unprinted = g.O.Drain.failed c.args.output.now;
-        reported = g.E.Drain.taken c.args.errors.now;
-        unreported = g.E.Drain.failed c.args.errors.now;
-      };
-    } in
+    let before : KnownEnds = ends_of g.S.Source g.O.Drain g.E.Drain c.args.source.now c.args.output.now c.args.errors.now in
+    let after : KnownEnds = ends_of g.S.Source g.O.Drain g.E.Drain c.read_group.new.source c.args.output.now c.args.errors.now in
     let comes = c.in-Err.ensures.comes in (
       comes.0,
       comes.1,
