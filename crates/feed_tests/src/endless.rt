@@ -6,7 +6,7 @@ use event_feed::FeedFault;
 use feed_client::Feeds;
 use replica_core::Replica;
 use review_ops::{Body, Draft, Op, Stamp};
-use running_sites::{NoTurn, ending, listening, one_session, run_one, talk};
+use running_sites::{NoHooks, ending, listening, one_session, run_one, talk};
 use site_net::Stop;
 use std::alloc::Global;
 use std::io::Write;
@@ -41,7 +41,7 @@ where
     let mut setup = one_session(alloc, 1).ok()?;
     setup.replica = replica;
     setup.sessions = sessions;
-    let (count, _, _) = ending(run_one(rt, alloc, listener, setup, &Stop::new(), &NoTurn))?;
+    let (count, _, _) = ending(run_one(rt, alloc, listener, setup, &Stop::new(), &NoHooks))?;
     Some(count)
 }
 

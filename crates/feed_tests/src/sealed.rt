@@ -11,7 +11,7 @@ use sealed_link::{dial, dialed};
 use site_address::{HostPort, PeerAddress};
 use site_ledger::NoJournal;
 use site_net::{Listener, Stop};
-use site_serve::{Closed, Setup, Turn, serve_keeping};
+use site_serve::{EndedSite, SessionHooks, Setup, serve_keeping};
 use std::alloc::Global;
 use std::io::{Read, Write};
 use std::net::{Net, Shutdown, TcpListener, TcpStream};
@@ -61,10 +61,10 @@ impl<R: Files + RandomSource + AllocGlobal + Drop> KeyReader for SystemHost<R> {
     }
 }
 
-impl<R: Files + RandomSource + AllocGlobal + Drop> Turn for SystemHost<R> {
-    fn enter(&self, _session: u64) {}
+impl<R: Files + RandomSource + AllocGlobal + Drop> SessionHooks for SystemHost<R> {
+    fn before(&self, _session: u64) {}
 
-    fn left(&self, _session: u64) {}
+    fn after(&self, _session: u64) {}
 }
 
 /// Runs a site at a port whose connections are sealed: how many operations it had at its end, and what it wrote to
@@ -79,14 +79,14 @@ pub fn run_sealed<R, T>(
 where
     R: Net<Listener = TcpListener, Stream = TcpStream> + Threads,
     R: Wait + Clock + Copy + Send + Sync,
-    T: Turn + Sync,
+    T: SessionHooks + Sync,
 {
     let mut listeners = Vec::new(alloc);
     listeners.push(Listener::Sealed(listener))?;
     let (errors, written) = watched_end(*rt, alloc)?;
     let stop = Stop::new();
     let output = Ends::new(Vec::new(alloc));
-    let Closed { keeper: _, served } = serve_keeping(
+    let EndedSite { keeper: _, served } = serve_keeping(
         rt, alloc, listeners, setup, &stop, output, errors, host, NoJournal,
     );
     let count = match ending(served) {
@@ -143,7 +143,7 @@ fn run_talks<R, T>(
 where
     R: Net<Listener = TcpListener, Stream = TcpStream> + Threads,
     R: Wait + Clock + Copy + Send + Sync,
-    T: Turn + Sync,
+    T: SessionHooks + Sync,
 {
     let (listener, port) = listening(rt)?;
     let setup = keyed(alloc, 1, talks.len() as u64, keys)?;
@@ -389,7 +389,7 @@ fn pulls_in_vain<R, T>(
 where
     R: Net<Listener = TcpListener, Stream = TcpStream> + Threads,
     R: Wait + Clock + Copy + Send + Sync,
-    T: Turn + Sync,
+    T: SessionHooks + Sync,
 {
     let (squatter, port) = listening(rt)?;
     let (listener, own) = listening(rt)?;

@@ -6,7 +6,7 @@ use feed_client::Feeds;
 use gate_rules::Gate;
 use op_text::read_op;
 use replica_core::Replica;
-use running_sites::{NoTurn, listening, talk};
+use running_sites::{NoHooks, listening, talk};
 use site_net::Stop;
 use site_serve::{Prints, Reloads, Setup, serve_run};
 use std::alloc::Global;
@@ -52,7 +52,7 @@ where
     };
     let (output, errors) = (Ends::new(Vec::new(alloc)), Ends::new(Vec::new(alloc)));
     let stop = Stop::new();
-    let served = serve_run(rt, alloc, listener, setup, &stop, output, errors, &NoTurn)?;
+    let served = serve_run(rt, alloc, listener, setup, &stop, output, errors, &NoHooks)?;
     Ok(served.replica.len())
 }
 

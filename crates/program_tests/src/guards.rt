@@ -10,7 +10,7 @@ use console::Named;
 use key_files::NoKeys;
 use record_pull::SystemFiles;
 use running_sites::{
-    NoTurn, PASS_ON, PASSED, TAKE, ending, listening, pulling, run_one, talk, talk_once_up,
+    NoHooks, PASS_ON, PASSED, TAKE, ending, listening, pulling, run_one, talk, talk_once_up,
     text_of, watched_end,
 };
 use site_net::Stop;
@@ -70,7 +70,7 @@ where
     R: Net<Listener = TcpListener, Stream = TcpStream> + Threads + Wait + Clock + Sync,
 {
     let output = Ends::new(Vec::new(alloc));
-    ending(serve_run(rt, alloc, listener, setup?, stop, output, errors, &NoTurn))
+    ending(serve_run(rt, alloc, listener, setup?, stop, output, errors, &NoHooks))
 }
 
 /// Answers the first pull of a site so, and then takes a merge in there: whether that is answered so. The site is then
@@ -361,7 +361,7 @@ fn run_starting<R>(
 where
     R: Net<Listener = TcpListener, Stream = TcpStream> + Threads + Wait + Clock + Sync,
 {
-    ending(run_one(rt, alloc, listener, setup?, stop, &NoTurn))
+    ending(run_one(rt, alloc, listener, setup?, stop, &NoHooks))
 }
 
 /// Answers the first pull of a site with that, and then asks it to stop: whether it pulled.

@@ -12,7 +12,7 @@ use jiff::Timestamp;
 use key_files::NoKeys;
 use record_pull::SystemFiles;
 use running_sites::{
-    NoTurn, Shared, Written, ending, listening, one_session, run_one, talk, talk_once_up, text_of,
+    NoHooks, Shared, Written, ending, listening, one_session, run_one, talk, talk_once_up, text_of,
     watched_end,
 };
 use site_net::Stop;
@@ -138,7 +138,7 @@ where
 {
     let setup = reloading(alloc, reloads)?;
     let errors = Ends::new(Vec::new(alloc));
-    ending(serve_run(rt, alloc, listener, setup, stop, output, errors, &NoTurn))
+    ending(serve_run(rt, alloc, listener, setup, stop, output, errors, &NoHooks))
 }
 
 /// The same beside that: how it ended, whether all was well, and whether just the last group is printed in the end.
@@ -286,7 +286,7 @@ where
     let stop = Stop::new();
     Some(thread::join(
         rt,
-        || ending(run_one(rt, alloc, listener, setup, &stop, &NoTurn)),
+        || ending(run_one(rt, alloc, listener, setup, &stop, &NoHooks)),
         || ask_both(rt, alloc, (port, page), &reloads, &stop),
     ))
 }

@@ -12,7 +12,8 @@ use console::Named;
 use key_files::NoKeys;
 use record_pull::SystemFiles;
 use running_sites::{
-    NoTurn, PASS_ON, PASSED, TAKE, ending, listening, pulling, run_one, talk, talk_once_up, text_of,
+    NoHooks, PASS_ON, PASSED, TAKE, ending, listening, pulling, run_one, talk, talk_once_up,
+    text_of,
 };
 use serve_command::ProgramFault;
 use site_net::Stop;
@@ -258,7 +259,7 @@ where
     R: Net<Listener = TcpListener, Stream = TcpStream> + Threads + Wait + Clock + Sync,
 {
     let setup = pulling(alloc, 1, &[]).ok()?;
-    ending(run_one(rt, alloc, listener, setup, stop, &NoTurn))
+    ending(run_one(rt, alloc, listener, setup, stop, &NoHooks))
 }
 
 /// A site pulls from the peers of its words: where one of them has the site's own start, it ends and says so.

@@ -6,7 +6,9 @@ use super::sockets::{bits_of, talk_at};
 use command_line::SocketMode;
 use page_server::open_endpoint;
 use record_pull::SystemFiles;
-use running_sites::{NoTurn, ending, listening, one_session, run_one, talk, talk_once_up, text_of};
+use running_sites::{
+    NoHooks, ending, listening, one_session, run_one, talk, talk_once_up, text_of,
+};
 use serve_command::ProgramFault;
 use site_address::{Address, PeerAddress};
 use site_net::{Stop, listen_at_path};
@@ -119,7 +121,7 @@ where
     let stop = Stop::new();
     Some(thread::join(
         rt,
-        || ending(run_one(rt, alloc, listener, setup, &stop, &NoTurn)),
+        || ending(run_one(rt, alloc, listener, setup, &stop, &NoHooks)),
         || look_at(rt, alloc, (port, page), &stop),
     ))
 }
@@ -180,7 +182,7 @@ where
     let stop = Stop::new();
     let (_ended, status) = thread::join(
         rt,
-        || ending(run_one(rt, alloc, listener, setup, &stop, &NoTurn)),
+        || ending(run_one(rt, alloc, listener, setup, &stop, &NoHooks)),
         || status_after_fault(rt, alloc, (port, page), &stop),
     );
     status.ok()

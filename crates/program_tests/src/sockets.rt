@@ -8,12 +8,12 @@ use super::programs::{
 use byte_ends::Ends;
 use key_files::NoKeys;
 use record_pull::SystemFiles;
-use running_sites::{NoTurn, PASS_ON, PASSED, TAKE, one_session, text_of};
+use running_sites::{NoHooks, PASS_ON, PASSED, TAKE, one_session, text_of};
 use serve_command::ProgramFault;
 use site_address::{Address, PeerAddress};
 use site_ledger::NoJournal;
 use site_net::{Listener, Patience, Stop, connected, listen_at_path};
-use site_serve::{Closed, Served, Setup, serve_keeping};
+use site_serve::{EndedSite, Served, Setup, serve_keeping};
 use std::alloc::Global;
 use std::fs::File;
 use std::io::{Read, Write};
@@ -157,8 +157,8 @@ where
 {
     let (output, errors) = (Ends::new(Vec::new(alloc)), Ends::new(Vec::new(alloc)));
     let stop = Stop::new();
-    let Closed { keeper: _, served } = serve_keeping(
-        rt, alloc, listeners, setup, &stop, output, errors, &NoTurn, NoJournal,
+    let EndedSite { keeper: _, served } = serve_keeping(
+        rt, alloc, listeners, setup, &stop, output, errors, &NoHooks, NoJournal,
     );
     served.ok()
 }

@@ -3,14 +3,14 @@
 //! An example of its use:
 //!
 //! ```
-//! use running_sites::{NoTurn, TAKE, ending, listening, one_session, run_one, talk};
+//! use running_sites::{NoHooks, TAKE, ending, listening, one_session, run_one, talk};
 //! use std::thread;
 //! let (listener, port) = listening(&rt)?;
 //! let setup = one_session(rt.alloc(), 1)?;
 //! let stop = Stop::new();
 //! let (served, answers) = thread::join(
 //!     &rt,
-//!     || run_one(&rt, rt.alloc(), listener, setup, &stop, &NoTurn),
+//!     || run_one(&rt, rt.alloc(), listener, setup, &stop, &NoHooks),
 //!     || talk(&rt, rt.alloc(), port, TAKE),
 //! );
 //! assert_eq!(rt; ending(served), Some((1, true, false)));
@@ -18,16 +18,16 @@
 //! ```
 #![tactic(auto)]
 
+mod hooks;
 mod keys;
 mod runs;
 mod setups;
 mod talks;
-mod turns;
 mod watched;
 
+pub use hooks::NoHooks;
 pub use keys::{FEEDER, READER, STRANGER, make_keys};
 pub use runs::{ending, run_one};
 pub use setups::{one_session, pulling};
 pub use talks::{PASS_ON, PASSED, TAKE, listening, stall, talk, talk_once_up, text_of};
-pub use turns::NoTurn;
 pub use watched::{Shared, Written, watched_end};

@@ -2,7 +2,7 @@
 
 use byte_ends::Ends;
 use site_net::Stop;
-use site_serve::{ServeFault, Served, Setup, Turn, serve_run};
+use site_serve::{ServeFault, Served, SessionHooks, Setup, serve_run};
 use std::alloc::Global;
 use std::net::{Net, TcpListener, TcpStream};
 use std::sync::Wait;
@@ -16,14 +16,14 @@ pub fn run_one<R, T>(
     listener: TcpListener,
     setup: Setup<'_>,
     stop: &Stop,
-    turn: &T,
+    hooks: &T,
 ) -> Result<Served, ServeFault>
 where
     R: Net<Listener = TcpListener, Stream = TcpStream> + Threads + Wait + Clock + Sync,
-    T: Turn + Sync,
+    T: SessionHooks + Sync,
 {
     let (output, errors) = (Ends::new(Vec::new(alloc)), Ends::new(Vec::new(alloc)));
-    serve_run(rt, alloc, listener, setup, stop, output, errors, turn)
+    serve_run(rt, alloc, listener, setup, stop, output, errors, hooks)
 }
 
 /// How a site ended: how many operations it had, whether all reports were written, and whether its start was taken.

@@ -5,6 +5,6 @@ pub mod Leaving
 pub mod Printing
 pub mod LateClock
 pub mod Listening
-pub mod Wishes
+pub mod InputCommands
 pub mod Restarts
 pub mod Starts

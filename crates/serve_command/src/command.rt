@@ -7,7 +7,7 @@ use super::fault::ProgramFault;
 use super::finished::Finished;
 use super::journal::tape_fault;
 use super::keys::judge_keys;
-use super::prepared::{Outside, Site};
+use super::prepared::{Site, SiteStreams};
 use super::running::{run_kept, run_taped};
 use super::save::SnapshotFile;
 use super::tape::FileTape;
@@ -75,12 +75,12 @@ where
     E: Drain + Send + Drop + 'static,
     L: KeyReader + Sync,
 {
-    let outside = Outside {
+    let streams = SiteStreams {
         input,
         files,
         errors,
     };
-    match run_site(rt, alloc, words, outside, keys) {
+    match run_site(rt, alloc, words, streams, keys) {
         Ok(()) => Ended::Well,
         Err(ended) => ended,
     }
@@ -91,7 +91,7 @@ fn run_site<'n, R, I, N, E, L>(
     rt: R,
     alloc: Global,
     serving: ServeWords<'n>,
-    outside: Outside<I, N, E>,
+    streams: SiteStreams<I, N, E>,
     keys: &L,
 ) -> Result<(), Ended<'n>>
 where
@@ -103,15 +103,15 @@ where
     E: Drain + Send + Drop + 'static,
     L: KeyReader + Sync,
 {
-    let mut outside = outside;
-    match inputs_of(&rt, alloc, &serving, &mut outside, keys) {
+    let mut streams = streams;
+    match inputs_of(&rt, alloc, &serving, &mut streams, keys) {
         Ok((gate, replica)) => {
             let site = Site {
                 serving,
                 gate,
                 replica,
             };
-            run_named(rt, alloc, site, outside, keys)
+            run_named(rt, alloc, site, streams, keys)
         }
         Err(ended) => Err(ended),
     }
@@ -122,7 +122,7 @@ fn inputs_of<'n, R, I, N, E, L>(
     rt: &R,
     alloc: Global,
     serving: &ServeWords<'n>,
-    outside: &mut Outside<I, N, E>,
+    streams: &mut SiteStreams<I, N, E>,
     keys: &L,
 ) -> Result<(Gate, Replica), Ended<'n>>
 where
@@ -135,9 +135,9 @@ where
         alloc,
         serving.gate,
         serving.load,
-        &mut outside.input,
+        &mut streams.input,
         &mut Ends::new(io::writer(rt)),
-        &mut outside.files,
+        &mut streams.files,
     );
     match inputs {
         Ok(inputs) => judged(keys, serving, inputs),
@@ -162,7 +162,7 @@ fn run_named<R, I, N, E, L>(
     rt: R,
     alloc: Global,
     site: Site<'_>,
-    outside: Outside<I, N, E>,
+    streams: SiteStreams<I, N, E>,
     keys: &L,
 ) -> Result<(), Ended<'static>>
 where
@@ -175,7 +175,7 @@ where
     L: KeyReader + Sync,
 {
     match snapshot_file_of(rt, alloc, site.serving.save) {
-        Ok(snapshot_file) => run_saved(rt, alloc, site, outside, keys, snapshot_file),
+        Ok(snapshot_file) => run_saved(rt, alloc, site, streams, keys, snapshot_file),
         Err(ended) => Err(ended),
     }
 }
@@ -200,7 +200,7 @@ fn run_saved<R, I, N, E, L>(
     rt: R,
     alloc: Global,
     site: Site<'_>,
-    outside: Outside<I, N, E>,
+    streams: SiteStreams<I, N, E>,
     keys: &L,
     snapshot_file: SnapshotFile<R>,
 ) -> Result<(), Ended<'static>>
@@ -215,12 +215,12 @@ where
 {
     let mut snapshot_file = snapshot_file;
     match site.serving.journal {
-        Some(name) => run_on_file(rt, alloc, name, site, outside, keys, &mut snapshot_file),
+        Some(name) => run_on_file(rt, alloc, name, site, streams, keys, &mut snapshot_file),
         None => run_kept(
             rt,
             alloc,
             site,
-            outside,
+            streams,
             keys,
             &mut snapshot_file,
             NoJournal,
@@ -235,7 +235,7 @@ fn run_on_file<R, I, N, E, L>(
     alloc: Global,
     name: &str,
     site: Site<'_>,
-    outside: Outside<I, N, E>,
+    streams: SiteStreams<I, N, E>,
     keys: &L,
     snapshot_file: &mut SnapshotFile<R>,
 ) -> Result<(), Ended<'static>>
@@ -249,7 +249,7 @@ where
     L: KeyReader + Sync,
 {
     match tape_of(&rt, alloc, name, site.serving.save) {
-        Ok(tape) => ended_of(run_taped(rt, alloc, site, outside, keys, snapshot_file, tape)),
+        Ok(tape) => ended_of(run_taped(rt, alloc, site, streams, keys, snapshot_file, tape)),
         Err(ended) => Err(ended),
     }
 }

@@ -10,7 +10,7 @@ use super::fault::ProgramFault;
 use super::save::Saves;
 use replica_core::Replica;
 use site_ledger::Keeps;
-use site_serve::{Closed, Served};
+use site_serve::{EndedSite, Served};
 
 /// A site of the program that has ended.
 #[derive(Drop)]
@@ -37,13 +37,13 @@ pub fn unrun<K: Keeps>(keeper: K, ended: Ended<'static>) -> Finished<K>
 }
 
 /// Saves what a site has left, also where its output failed, or where it ended because its start is taken.
-pub fn finish<S: Saves, K>(snapshot_file: &mut S, closed: Closed<K>) -> Finished<K>
-    ensures keeper { result.keeper ≡ closed.keeper }
-    ensures left { IsLeftOf closed.served result.left }
+pub fn finish<S: Saves, K>(snapshot_file: &mut S, ended_site: EndedSite<K>) -> Finished<K>
+    ensures keeper { result.keeper ≡ ended_site.keeper }
+    ensures left { IsLeftOf ended_site.served result.left }
     ensures saved { HasSaved S.saves snapshot_file.old result.left result.ended snapshot_file.new }
-    ensures ends { EndsBy closed.served result.ended }
+    ensures ends { EndsBy ended_site.served result.ended }
 {
-    let Closed { keeper, served } = closed;
+    let EndedSite { keeper, served } = ended_site;
     match served {
         Ok(served) => Finished {
             keeper,

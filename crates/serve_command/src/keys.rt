@@ -5,15 +5,15 @@ use command_line::ServeWords;
 use key_file::{KeyFault, Keys};
 use key_files::KeyReader;
 use site_address::PeerAddress;
-use site_serve::Turn;
+use site_serve::SessionHooks;
 
 /// The host of a site that does nothing before and after a session, and reads keys with this reader.
 #[derive(Drop)]
-pub struct Host<'a, L: KeyReader> {
+pub struct KeyHooks<'a, L: KeyReader> {
     pub reader: &'a L,
 }
 
-impl<L: KeyReader> KeyReader for Host<'_, L> {
+impl<L: KeyReader> KeyReader for KeyHooks<'_, L> {
     fn keys(&self, name: &str) -> Result<Keys, KeyFault> {
         self.reader.keys(name)
     }
@@ -23,10 +23,10 @@ impl<L: KeyReader> KeyReader for Host<'_, L> {
     }
 }
 
-impl<L: KeyReader> Turn for Host<'_, L> {
-    fn enter(&self, _session: u64) {}
+impl<L: KeyReader> SessionHooks for KeyHooks<'_, L> {
+    fn before(&self, _session: u64) {}
 
-    fn left(&self, _session: u64) {}
+    fn after(&self, _session: u64) {}
 }
 
 /// Judges the file of keys that the words name, if they name one: it has to be read, and to have a key of each name

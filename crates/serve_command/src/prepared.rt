@@ -4,7 +4,7 @@ ghost use Rattle.std.specs.Prelude.{◌≡◌, IfOk};
 ghost use Rattle.serve_command.specs.Starts.{IsStartOf};
 
 use super::command::Ended;
-use super::heard::{Heard, hear};
+use super::input_thread::{SiteControls, start_input};
 use super::late_clock::show_late_clock;
 use super::listening::{Listening, leave, listen};
 use super::output::PatientOutput;
@@ -36,7 +36,7 @@ pub struct Site<'a> {
 
 /// A site's standard input, the files that it reads, and its standard error.
 #[derive(Drop)]
-pub struct Outside<I, N, E> {
+pub struct SiteStreams<I, N, E> {
     pub input: I,
     pub files: N,
     pub errors: E,
@@ -54,7 +54,7 @@ pub struct Opened<'a> {
 #[derive(Drop)]
 pub struct Prepared<'a, R, O> {
     pub opened: Opened<'a>,
-    pub heard: Heard<R>,
+    pub controls: SiteControls<R>,
     pub output: O,
 }
 
@@ -65,7 +65,7 @@ pub fn prepare<'a, R, I, N, E>(
     rt: R,
     alloc: Global,
     site: Site<'a>,
-    outside: Outside<I, N, E>,
+    streams: SiteStreams<I, N, E>,
 ) -> Result<Prepared<'a, R, Ends<PatientOutput<R>>>, Ended<'static>>
 where
     R: Net<Listener = TcpListener, Stream = TcpStream> + RandomSource,
@@ -78,10 +78,10 @@ where
     ensures start { IfOk result
         (λ prepared. IsStartOf site.entry.serving.site site.entry.serving.start site.entry.replica prepared.opened.start) }
 {
-    let mut outside = outside;
-    show_late_clock(alloc, &site.replica, &mut outside.errors);
+    let mut streams = streams;
+    show_late_clock(alloc, &site.replica, &mut streams.errors);
     match open(&rt, alloc, site) {
-        Ok(opened) => attended(rt, alloc, opened, outside),
+        Ok(opened) => with_threads(rt, alloc, opened, streams),
         Err(ended) => Err(ended),
     }
 }
@@ -128,11 +128,11 @@ where
 }
 
 /// A site that listens, with its input heard and its output made, or without its sockets.
-fn attended<'a, R, I, N, E>(
+fn with_threads<'a, R, I, N, E>(
     rt: R,
     alloc: Global,
     opened: Opened<'a>,
-    outside: Outside<I, N, E>,
+    streams: SiteStreams<I, N, E>,
 ) -> Result<Prepared<'a, R, Ends<PatientOutput<R>>>, Ended<'static>>
 where
     R: Files + Print + Threads + Wait + Clock + Copy + Send + 'static,
@@ -142,10 +142,10 @@ where
     ensures { IfOk result (λ prepared. prepared.opened ≡ opened.entry) }
 {
     let serving = &opened.site.serving;
-    match attend(rt, alloc, serving.gate, serving.until_input_ends, outside) {
-        Ok((heard, output)) => Ok(Prepared {
+    match start_threads(rt, alloc, serving.gate, serving.until_input_ends, streams) {
+        Ok((controls, output)) => Ok(Prepared {
             opened,
-            heard,
+            controls,
             output,
         }),
         Err(fault) => {
@@ -156,26 +156,26 @@ where
 }
 
 /// Has the input of a site heard, and makes its output.
-fn attend<R, I, N, E>(
+fn start_threads<R, I, N, E>(
     rt: R,
     alloc: Global,
     gate: &str,
     until_input_ends: bool,
-    outside: Outside<I, N, E>,
-) -> Result<(Heard<R>, Ends<PatientOutput<R>>), ServeFault>
+    streams: SiteStreams<I, N, E>,
+) -> Result<(SiteControls<R>, Ends<PatientOutput<R>>), ServeFault>
 where
     R: Print + Threads + Wait + Clock + Copy + Send + 'static,
     I: Source + Send + Drop + 'static,
     N: Named + Send + Drop + 'static,
     E: Drain + Send + Drop + 'static,
 {
-    let Outside {
+    let SiteStreams {
         input,
         files,
         errors,
-    } = outside;
-    match hear(rt, alloc, gate, until_input_ends, input, files, errors) {
-        Ok(heard) => with_output(rt, alloc, heard),
+    } = streams;
+    match start_input(rt, alloc, gate, until_input_ends, input, files, errors) {
+        Ok(controls) => with_output(rt, alloc, controls),
         Err(fault) => Err(fault),
     }
 }
@@ -184,13 +184,13 @@ where
 fn with_output<R>(
     rt: R,
     alloc: Global,
-    heard: Heard<R>,
-) -> Result<(Heard<R>, Ends<PatientOutput<R>>), ServeFault>
+    controls: SiteControls<R>,
+) -> Result<(SiteControls<R>, Ends<PatientOutput<R>>), ServeFault>
 where
     R: Print + Threads + Wait + Clock + Copy + Send + 'static,
 {
-    match output_of(rt, alloc, &heard.stop) {
-        Ok(output) => Ok((heard, output)),
+    match output_of(rt, alloc, &controls.stop) {
+        Ok(output) => Ok((controls, output)),
         Err(fault) => Err(fault),
     }
 }

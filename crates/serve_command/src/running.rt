@@ -12,11 +12,11 @@ ghost use Rattle.serve_command.specs.Printing.{prints_of};
 
 use super::command::Ended;
 use super::finished::{Finished, finish, unrun};
-use super::heard::Heard;
+use super::input_thread::SiteControls;
 use super::journal::begin;
-use super::keys::Host;
+use super::keys::KeyHooks;
 use super::listening::{Listening, SiteListeners, leave};
-use super::prepared::{Opened, Outside, Prepared, Site, prepare};
+use super::prepared::{Opened, Prepared, Site, SiteStreams, prepare};
 use super::save::Saves;
 use byte_ends::{Drain, Source};
 use command_line::{Printing, ServeWords};
@@ -45,7 +45,7 @@ pub fn run_taped<R, I, N, E, L, S, T>(
     rt: R,
     alloc: Global,
     site: Site<'_>,
-    outside: Outside<I, N, E>,
+    streams: SiteStreams<I, N, E>,
     keys: &L,
     snapshot_file: &mut S,
     tape: T,
@@ -66,9 +66,9 @@ where
     ensures saved { IfOk result (λ finished. HasSaved S.saves snapshot_file.old finished.left finished.ended snapshot_file.new) }
     ensures refused { OnErr result (snapshot_file.new ≡ snapshot_file.old) }
 {
-    let mut outside = outside;
-    match begun_on(rt, alloc, tape, site, &mut outside.errors) {
-        Ok((journal, site)) => Ok(run_kept(rt, alloc, site, outside, keys, snapshot_file, journal)),
+    let mut streams = streams;
+    match begun_on(rt, alloc, tape, site, &mut streams.errors) {
+        Ok((journal, site)) => Ok(run_kept(rt, alloc, site, streams, keys, snapshot_file, journal)),
         Err(ended) => Err(ended),
     }
 }
@@ -117,7 +117,7 @@ pub fn run_kept<R, I, N, E, L, S, K>(
     rt: R,
     alloc: Global,
     site: Site<'_>,
-    outside: Outside<I, N, E>,
+    streams: SiteStreams<I, N, E>,
     keys: &L,
     snapshot_file: &mut S,
     keeper: K,
@@ -136,7 +136,7 @@ where
     ensures kept { LeavesKept K.survives (K.holds keeper) site.entry.replica result.keeper result.left }
     ensures saved { HasSaved S.saves snapshot_file.old result.left result.ended snapshot_file.new }
 {
-    match prepare(rt, alloc, site, outside) {
+    match prepare(rt, alloc, site, streams) {
         Ok(prepared) => run_prepared(rt, alloc, prepared, keys, snapshot_file, keeper),
         Err(ended) => unrun(keeper, ended),
     }
@@ -166,7 +166,7 @@ where
 {
     let Prepared {
         opened,
-        heard,
+        controls,
         output,
     } = prepared;
     let Opened {
@@ -174,23 +174,23 @@ where
         start,
         listening,
     } = opened;
-    let Heard {
+    let SiteControls {
         stop,
         reloads,
         errors,
-    } = heard;
+    } = controls;
     let Listening {
         site_listeners,
         sockets,
     } = listening;
     let SiteListeners { listeners, page } = site_listeners;
-    let host = Host { reader: keys };
+    let hooks = KeyHooks { reader: keys };
     let last = errors.share();
     let setup = setup_of(site, start, reloads, page);
-    let closed = serve_keeping(
-        &rt, alloc, listeners, setup, &stop, output, errors, &host, keeper,
+    let ended_site = serve_keeping(
+        &rt, alloc, listeners, setup, &stop, output, errors, &hooks, keeper,
     );
-    let finished = finish(snapshot_file, closed);
+    let finished = finish(snapshot_file, ended_site);
     leave(&rt, sockets.as_slice());
     if let Ok(last) = last {
         last.finish();

@@ -4,9 +4,9 @@ use byte_ends::Ends;
 use gate_rules::Gate;
 use key_file::{KeyFault, Keys};
 use key_files::{KeyReader, NoKeys};
-use running_sites::{NoTurn, Shared, Written, ending, listening, one_session, talk, watched_end};
+use running_sites::{NoHooks, Shared, Written, ending, listening, one_session, talk, watched_end};
 use site_net::Stop;
-use site_serve::{Prints, Setup, Turn, serve_run};
+use site_serve::{Prints, SessionHooks, Setup, serve_run};
 use std::alloc::Global;
 use std::io::{ErrorKind, Write};
 use std::net::{Net, TcpListener, TcpStream};
@@ -70,8 +70,8 @@ impl<R: Wait + Clock + Copy> AfterGroup<R> {
     }
 }
 
-impl<R: Wait + Clock + Copy> Turn for AfterGroup<R> {
-    fn enter(&self, session: u64) {
+impl<R: Wait + Clock + Copy> SessionHooks for AfterGroup<R> {
+    fn before(&self, session: u64) {
         let mut awaited = 0usize;
         for (place, (_, group)) in CLIENTS.iter().enumerate() {
             if (place as u64) + 1 < session {
@@ -81,7 +81,7 @@ impl<R: Wait + Clock + Copy> Turn for AfterGroup<R> {
         self.await_bytes(awaited);
     }
 
-    fn left(&self, _session: u64) {}
+    fn after(&self, _session: u64) {}
 }
 
 impl<R: Wait + Clock + Copy> KeyReader for AfterGroup<R> {
@@ -120,7 +120,7 @@ fn run_changing<R>(
     rt: &R,
     alloc: Global,
     output: Ends<Shared<R>>,
-    turn: &AfterGroup<R>,
+    hooks: &AfterGroup<R>,
 ) -> Result<bool, Fail>
 where
     R: Net<Listener = TcpListener, Stream = TcpStream>
@@ -137,7 +137,7 @@ where
     let errors = Ends::new(Vec::new(alloc));
     let (served, is_answered) = thread::join(
         rt,
-        || ending(serve_run(rt, alloc, listener, setup, &stop, output, errors, turn)),
+        || ending(serve_run(rt, alloc, listener, setup, &stop, output, errors, hooks)),
         || talk_in_turn(rt, alloc, port),
     );
     Ok(served == Some((3, true, false)) && is_answered)
@@ -147,11 +147,11 @@ where
 #[test]
 fn changes_are_printed(rt: HostRuntime) -> Result<(), Fail> {
     let (output, written) = watched_end(rt, rt.alloc())?;
-    let turn = AfterGroup {
+    let hooks = AfterGroup {
         rt,
         written: Arc::try_clone(&written)?,
     };
-    assert!(rt; run_changing(&rt, rt.alloc(), output, &turn)?);
+    assert!(rt; run_changing(&rt, rt.alloc(), output, &hooks)?);
     let mut wanted = Vec::new(rt.alloc());
     for (_, group) in CLIENTS {
         wanted.extend_from_slice(group.as_bytes())?;
@@ -183,7 +183,7 @@ where
     let output = Ends::new(Closed);
     let (served, _answers) = thread::join(
         rt,
-        || ending(serve_run(rt, alloc, listener, setup, &stop, output, errors, &NoTurn)),
+        || ending(serve_run(rt, alloc, listener, setup, &stop, output, errors, &NoHooks)),
         || talk(rt, alloc, port, TAKE_PATCH),
     );
     Ok(served)

@@ -2,7 +2,7 @@
 
 use byte_ends::Ends;
 use running_sites::{
-    NoTurn, PASS_ON, ending, listening, one_session, pulling, run_one, stall, talk, text_of,
+    NoHooks, PASS_ON, ending, listening, one_session, pulling, run_one, stall, talk, text_of,
 };
 use site_net::Stop;
 use site_serve::{Setup, serve_run};
@@ -56,7 +56,7 @@ fn a_silent_crowd_holds_no_other_and_no_end(rt: HostRuntime) -> Result<(), Fail>
     let stop = Stop::new();
     let (ended, answers) = thread::join(
         &rt,
-        || ending(run_one(&rt, alloc, listener, setup, &stop, &NoTurn)),
+        || ending(run_one(&rt, alloc, listener, setup, &stop, &NoHooks)),
         || talk_beside_crowd(&rt, alloc, port, &stop),
     );
     assert_eq!(rt; ended, Some((0, true, false)));
@@ -74,7 +74,7 @@ where
     let stop = Stop::new();
     let (_served, answers) = thread::join(
         rt,
-        || run_one(rt, alloc, listener, setup, &stop, &NoTurn),
+        || run_one(rt, alloc, listener, setup, &stop, &NoHooks),
         || send_pieces(rt, alloc, port, pieces),
     );
     answers
@@ -150,7 +150,7 @@ fn sessions_end_with_their_lines(rt: HostRuntime) -> Result<(), Fail> {
     let stop = Stop::new();
     let (ended, answered) = thread::join(
         &rt,
-        || ending(run_one(&rt, alloc, listener, setup, &stop, &NoTurn)),
+        || ending(run_one(&rt, alloc, listener, setup, &stop, &NoHooks)),
         || ends_with_lines(&rt, alloc, port, &stop),
     );
     assert!(rt; matches!(answered, Ok(ENDING)));
@@ -229,7 +229,7 @@ where
     R: Net<Listener = TcpListener, Stream = TcpStream> + Threads + Wait + Clock + Sync,
 {
     let setup = one_session(alloc, 1)?;
-    Ok(ending(run_one(rt, alloc, listener, setup, &Stop::new(), &NoTurn)))
+    Ok(ending(run_one(rt, alloc, listener, setup, &Stop::new(), &NoHooks)))
 }
 
 #[test]
@@ -278,7 +278,7 @@ where
     let mut setup = pulling(alloc, 1, &[])?;
     setup.connections = 1;
     let output = Ends::new(Vec::new(alloc));
-    Ok(ending(serve_run(rt, alloc, listener, setup, stop, output, errors, &NoTurn)))
+    Ok(ending(serve_run(rt, alloc, listener, setup, stop, output, errors, &NoHooks)))
 }
 
 /// A connection beyond as many as may be open is closed with nothing said, and the session before it goes on.

@@ -1,7 +1,7 @@
 //! Sites that pull from each other, and others that don't answer, don't read or don't go.
 
 use byte_ends::Ends;
-use running_sites::{NoTurn, ending, listening, pulling, run_one, stall, talk, text_of};
+use running_sites::{NoHooks, ending, listening, pulling, run_one, stall, talk, text_of};
 use site_net::Stop;
 use site_serve::{ServeFault, Served, Setup, serve_run};
 use std::alloc::Global;
@@ -95,11 +95,11 @@ where
     let (stop, stops) = (Stop::new(), Stop::new());
     let (served, (pulled, agree)) = thread::join(
         rt,
-        || run_one(rt, alloc, first.0, first.1, &stop, &NoTurn),
+        || run_one(rt, alloc, first.0, first.1, &stop, &NoHooks),
         || {
             thread::join(
                 rt,
-                || run_one(rt, alloc, second.0, second.1, &stops, &NoTurn),
+                || run_one(rt, alloc, second.0, second.1, &stops, &NoHooks),
                 || {
                     let agree = come_to_agree(rt, alloc, ports.0, ports.1);
                     stop.ask(rt);
@@ -178,7 +178,7 @@ fn a_client_that_never_reads_and_a_mute_peer_hold_no_other(rt: HostRuntime) -> R
     let stop = Stop::new();
     let (ended, answers) = thread::join(
         &rt,
-        || ending(run_one(&rt, alloc, listener, setup, &stop, &NoTurn)),
+        || ending(run_one(&rt, alloc, listener, setup, &stop, &NoHooks)),
         || talk_beside_deaf(&rt, alloc, port, &stop),
     );
     assert_eq!(rt; text_of(&answers), "hello 2\nbye\n");
@@ -216,7 +216,7 @@ where
 {
     let setup = with_peer(alloc, 1, peer)?;
     let output = Ends::new(Vec::new(alloc));
-    Ok(ending(serve_run(rt, alloc, listener, setup, stop, output, errors, &NoTurn)))
+    Ok(ending(serve_run(rt, alloc, listener, setup, stop, output, errors, &NoHooks)))
 }
 
 /// A peer that has greeted a pull and then says nothing is left after ten seconds, and that is reported.
@@ -263,7 +263,7 @@ where
     let stop = Stop::new();
     let (ended, asked) = thread::join(
         rt,
-        || ending(run_one(rt, alloc, listener, setup, &stop, &NoTurn)),
+        || ending(run_one(rt, alloc, listener, setup, &stop, &NoHooks)),
         || ask_to_end(rt, alloc, port, &stop),
     );
     match ended {

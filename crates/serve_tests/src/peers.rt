@@ -2,7 +2,7 @@
 
 use super::asserts::assert_found;
 use byte_ends::Ends;
-use running_sites::{NoTurn, ending, listening, pulling, text_of};
+use running_sites::{NoHooks, ending, listening, pulling, text_of};
 use site_net::Stop;
 use site_serve::serve_run;
 use std::alloc::Global;
@@ -56,7 +56,7 @@ where
             stop,
             output,
             &mut errors,
-            &NoTurn,
+            &NoHooks,
         )),
         Err(_) => None,
     };

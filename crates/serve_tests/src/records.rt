@@ -5,7 +5,7 @@ use command_line::{Asked, read_words};
 use commands::run_command;
 use op_text::read_op;
 use record_pull::SystemFiles;
-use running_sites::{NoTurn, ending, listening, one_session, run_one};
+use running_sites::{NoHooks, ending, listening, one_session, run_one};
 use site_net::Stop;
 use site_serve::Setup;
 use std::alloc::Global;
@@ -97,7 +97,7 @@ where
     R: Net<Listener = TcpListener, Stream = TcpStream> + Threads + Wait + Clock + Sync,
 {
     let setup = with_patch_set(alloc)?;
-    Ok(ending(run_one(rt, alloc, listener, setup, &Stop::new(), &NoTurn)))
+    Ok(ending(run_one(rt, alloc, listener, setup, &Stop::new(), &NoHooks)))
 }
 
 #[test]

@@ -5,11 +5,11 @@ use key_file::{KeyFault, Keys};
 use key_files::{KeyReader, NoKeys};
 use op_text::read_op;
 use running_sites::{
-    NoTurn, PASS_ON, Shared, TAKE, Written, ending, listening, one_session, pulling, run_one,
+    NoHooks, PASS_ON, Shared, TAKE, Written, ending, listening, one_session, pulling, run_one,
     stall, talk, text_of, watched_end,
 };
 use site_net::Stop;
-use site_serve::{ServeFault, Setup, Turn, serve_run};
+use site_serve::{ServeFault, SessionHooks, Setup, serve_run};
 use std::alloc::Global;
 use std::net::{Net, TcpListener, TcpStream};
 use std::process::Abort;
@@ -35,18 +35,18 @@ fn run_session<R, T>(
     rt: &R,
     alloc: Global,
     setup: Setup<'_>,
-    turn: &T,
+    hooks: &T,
     lines: &str,
 ) -> io::Result<Ran>
 where
     R: Net<Listener = TcpListener, Stream = TcpStream> + Threads + Wait + Clock + Sync,
-    T: Turn + Sync,
+    T: SessionHooks + Sync,
 {
     let (listener, port) = listening(rt)?;
     let stop = Stop::new();
     let (served, answers) = thread::join(
         rt,
-        || run_one(rt, alloc, listener, setup, &stop, turn),
+        || run_one(rt, alloc, listener, setup, &stop, hooks),
         || talk(rt, alloc, port, lines),
     );
     Ok(Ran {
@@ -60,7 +60,7 @@ fn a_client_takes_a_patch_set_and_reads_its_report(rt: HostRuntime) -> Result<()
     let lines =
         "hello 2\ntake {\"change\":101,\"message\":\"m\",\"op\":\"patchset\",\"set\":1}\nready\nquit\n";
     let setup = one_session(rt.alloc(), 1)?;
-    let ran = run_session(&rt, rt.alloc(), setup, &NoTurn, lines)?;
+    let ran = run_session(&rt, rt.alloc(), setup, &NoHooks, lines)?;
     assert_eq!(rt; ran.ending, Some((1, true, false)));
     assert_eq!(rt;
         text_of(&ran.answers),
@@ -74,7 +74,13 @@ fn a_client_takes_a_patch_set_and_reads_its_report(rt: HostRuntime) -> Result<()
 fn a_bad_body_is_answered_as_one(rt: HostRuntime) -> Result<(), Fail> {
     let lines =
         "hello 2\ntake {\"change\":0,\"op\":\"merged\"}\ntake {\"change\":7,\"op\":\"merged\"}\nquit\n";
-    let ran = run_session(&rt, rt.alloc(), one_session(rt.alloc(), 1)?, &NoTurn, lines)?;
+    let ran = run_session(
+        &rt,
+        rt.alloc(),
+        one_session(rt.alloc(), 1)?,
+        &NoHooks,
+        lines,
+    )?;
     assert_eq!(rt; ran.ending, Some((1, true, false)));
     assert_eq!(rt;
         text_of(&ran.answers),
@@ -94,7 +100,7 @@ fn with_used_start(alloc: Global) -> Result<Setup<'static>, Fail> {
 fn a_start_that_was_used_is_refused(rt: HostRuntime) -> Result<(), Fail> {
     let (listener, _port) = listening(&rt)?;
     let setup = with_used_start(rt.alloc())?;
-    let served = run_one(&rt, rt.alloc(), listener, setup, &Stop::new(), &NoTurn);
+    let served = run_one(&rt, rt.alloc(), listener, setup, &Stop::new(), &NoHooks);
     assert_eq!(rt; served.err(), Some(ServeFault::StartUsed));
     Ok(())
 }
@@ -108,8 +114,8 @@ struct SecondFirst<R: Clock + Copy> {
     is_given_up: AtomicBool,
 }
 
-impl<R: Clock + Copy> Turn for SecondFirst<R> {
-    fn enter(&self, session: u64) {
+impl<R: Clock + Copy> SessionHooks for SecondFirst<R> {
+    fn before(&self, session: u64) {
         for _ in 0..10_000 {
             if session > 1 || self.is_second_over.load(Ordering::SeqCst) {
                 return;
@@ -119,7 +125,7 @@ impl<R: Clock + Copy> Turn for SecondFirst<R> {
         self.is_given_up.store(true, Ordering::SeqCst);
     }
 
-    fn left(&self, session: u64) {
+    fn after(&self, session: u64) {
         if session == 2 {
             self.is_second_over.store(true, Ordering::SeqCst);
         }
@@ -143,16 +149,16 @@ fn both_are_answered<R, T>(
     listener: TcpListener,
     setup: Setup<'_>,
     port: u16,
-    turn: &T,
+    hooks: &T,
 ) -> bool
 where
     R: Net<Listener = TcpListener, Stream = TcpStream> + Threads + Wait + Clock + Sync,
-    T: Turn + Sync,
+    T: SessionHooks + Sync,
 {
     let stop = Stop::new();
     let (served, (one, other)) = thread::join(
         rt,
-        || run_one(rt, alloc, listener, setup, &stop, turn),
+        || run_one(rt, alloc, listener, setup, &stop, hooks),
         || {
             thread::join(
                 rt,
@@ -172,13 +178,13 @@ fn a_held_session_holds_no_other(rt: HostRuntime) -> Result<(), Fail> {
     let mut setup = one_session(rt.alloc(), 1)?;
     setup.workers = 2;
     setup.sessions = 2;
-    let turn = SecondFirst {
+    let hooks = SecondFirst {
         rt,
         is_second_over: AtomicBool::new(false),
         is_given_up: AtomicBool::new(false),
     };
-    assert!(rt; both_are_answered(&rt, rt.alloc(), listener, setup, port, &turn));
-    assert!(rt; !turn.is_given_up.load(Ordering::SeqCst));
+    assert!(rt; both_are_answered(&rt, rt.alloc(), listener, setup, port, &hooks));
+    assert!(rt; !hooks.is_given_up.load(Ordering::SeqCst));
     Ok(())
 }
 
@@ -233,11 +239,11 @@ fn a_site_pulls_what_its_peer_took(rt: HostRuntime) -> Result<(), Fail> {
     let (stop, stops) = (Stop::new(), Stop::new());
     let (served, (pulled, is_answered)) = thread::join(
         &rt,
-        || ending(run_one(&rt, alloc, first, here, &stop, &NoTurn)),
+        || ending(run_one(&rt, alloc, first, here, &stop, &NoHooks)),
         || {
             thread::join(
                 &rt,
-                || ending(run_one(&rt, alloc, second, there, &stops, &NoTurn)),
+                || ending(run_one(&rt, alloc, second, there, &stops, &NoHooks)),
                 || is_passed_on(&rt, alloc, one, other, &stop, &stops),
             )
         },
@@ -269,14 +275,14 @@ where
         || {
             thread::join(
                 rt,
-                || ending(run_one(rt, alloc, first, here, &stop, &NoTurn)),
-                || ending(run_one(rt, alloc, second, there, &stop, &NoTurn)),
+                || ending(run_one(rt, alloc, first, here, &stop, &NoHooks)),
+                || ending(run_one(rt, alloc, second, there, &stop, &NoHooks)),
             )
         },
         || {
             thread::join(
                 rt,
-                || ending(run_one(rt, alloc, third, beyond, &stop, &NoTurn)),
+                || ending(run_one(rt, alloc, third, beyond, &stop, &NoHooks)),
                 || gives_both(rt, alloc, [one, two], three, &stop),
             )
         },
@@ -318,7 +324,7 @@ fn an_idle_session_is_ended(rt: HostRuntime) -> Result<(), Fail> {
     setup.idle_ms = 200;
     let (ended, answers) = thread::join(
         &rt,
-        || ending(run_one(&rt, alloc, listener, setup, &Stop::new(), &NoTurn)),
+        || ending(run_one(&rt, alloc, listener, setup, &Stop::new(), &NoHooks)),
         || fall_silent(&rt, alloc, port),
     );
     assert!(rt; ended.is_some());
@@ -349,11 +355,11 @@ fn a_site_pauses_between_pulls(rt: HostRuntime) -> Result<(), Fail> {
     let stop = Stop::new();
     let (ended, (pulled, is_answered)) = thread::join(
         &rt,
-        || ending(run_one(&rt, alloc, first, here, &stop, &NoTurn)),
+        || ending(run_one(&rt, alloc, first, here, &stop, &NoHooks)),
         || {
             thread::join(
                 &rt,
-                || ending(run_one(&rt, alloc, second, there, &stop, &NoTurn)),
+                || ending(run_one(&rt, alloc, second, there, &stop, &NoHooks)),
                 || is_up(&rt, alloc, one, &stop),
             )
         },
@@ -371,10 +377,10 @@ fn a_site_that_finds_its_own_start_elsewhere_ends(rt: HostRuntime) -> Result<(),
     let (stop, stops) = (Stop::new(), Stop::new());
     let (served, (is_taken, ended)) = thread::join(
         &rt,
-        || ending(run_one(&rt, alloc, first, here, &stop, &NoTurn)),
+        || ending(run_one(&rt, alloc, first, here, &stop, &NoHooks)),
         || {
             let is_taken = talk(&rt, alloc, one, TAKE).is_ok();
-            let ended = ending(run_one(&rt, alloc, second, twin, &stops, &NoTurn));
+            let ended = ending(run_one(&rt, alloc, second, twin, &stops, &NoHooks));
             stop.ask(&rt);
             (is_taken, ended)
         },
@@ -412,7 +418,7 @@ fn clients_that_stall_hold_no_other_and_no_end(rt: HostRuntime) -> Result<(), Fa
     let stop = Stop::new();
     let (ended, answers) = thread::join(
         &rt,
-        || ending(run_one(&rt, alloc, listener, setup, &stop, &NoTurn)),
+        || ending(run_one(&rt, alloc, listener, setup, &stop, &NoHooks)),
         || talk_beside(&rt, alloc, port, &stop),
     );
     assert!(rt; ended.is_some());
@@ -444,13 +450,13 @@ impl<R: Wait + Clock + Copy> AfterReport<R> {
     }
 }
 
-impl<R: Wait + Clock + Copy> Turn for AfterReport<R> {
-    fn enter(&self, _session: u64) {
+impl<R: Wait + Clock + Copy> SessionHooks for AfterReport<R> {
+    fn before(&self, _session: u64) {
         let is_printed = self.await_more(0);
         self.is_printed.store(is_printed, Ordering::SeqCst);
     }
 
-    fn left(&self, _session: u64) {
+    fn after(&self, _session: u64) {
         let is_followed = self.await_more(FIRST_REPORT.len());
         self.is_followed.store(is_followed, Ordering::SeqCst);
     }
@@ -480,7 +486,7 @@ fn run_after_report<R>(
     rt: &R,
     alloc: Global,
     output: Ends<Shared<R>>,
-    turn: &AfterReport<R>,
+    hooks: &AfterReport<R>,
 ) -> Result<bool, Fail>
 where
     R: Net<Listener = TcpListener, Stream = TcpStream>
@@ -497,7 +503,7 @@ where
     let errors = Ends::new(Vec::new(alloc));
     let (served, answers) = thread::join(
         rt,
-        || ending(serve_run(rt, alloc, listener, setup, &stop, output, errors, turn)),
+        || ending(serve_run(rt, alloc, listener, setup, &stop, output, errors, hooks)),
         || talk(rt, alloc, port, TAKE_PATCH),
     );
     Ok(served == Some((1, true, false)) && answers.is_ok())
@@ -507,14 +513,16 @@ where
 #[test]
 fn each_report_is_printed(rt: HostRuntime) -> Result<(), Fail> {
     let (output, printed) = watched_end(rt, rt.alloc())?;
-    let turn = AfterReport {
+    let hooks = AfterReport {
         rt,
         printed,
         is_printed: AtomicBool::new(false),
         is_followed: AtomicBool::new(false),
     };
-    assert!(rt; run_after_report(&rt, rt.alloc(), output, &turn)?);
-    assert!(rt; turn.is_printed.load(Ordering::SeqCst) && turn.is_followed.load(Ordering::SeqCst));
-    assert_eq!(rt; turn.printed.lock(&rt).as_slice(), REPORTS.as_bytes());
+    assert!(rt; run_after_report(&rt, rt.alloc(), output, &hooks)?);
+    assert!(rt;
+        hooks.is_printed.load(Ordering::SeqCst) && hooks.is_followed.load(Ordering::SeqCst)
+    );
+    assert_eq!(rt; hooks.printed.lock(&rt).as_slice(), REPORTS.as_bytes());
     Ok(())
 }

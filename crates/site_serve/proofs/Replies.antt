@@ -2,9 +2,9 @@
 use Rattle.std.proofs.Common.{◌≡◌, ◌∷◌, ◌++◌, [], ℕ, IfErr, IfOk, List, OnOk, Option, Result, Ok, Err, inl, inr}
 use Rattle.std.proofs.Common.{refl, subst, sym}
 use Rattle.review_ops.specs.Timestamp.{Timestamp}
-use Rattle.site_serve.specs.Answered.{AreAnswered, EachIsAnswered, IsAskerAnswered, IsSeatAnswered, SaysFault, SaysHeld, SaysStamp}
+use Rattle.site_serve.specs.Answered.{AreAnswered, EachIsAnswered, IsAskerAnswered, IsPlaceAnswered, SaysFault, SaysHeld, SaysStamp}
 use Rattle.site_serve.specs.declared.ask.Asker.TheVariants.{Session}
-use Rattle.site_serve.specs.declared.desk.Waiter.{Waiter}
+use Rattle.site_serve.specs.declared.requests.Waiter.{Waiter}
 use Rattle.site_shared.specs.declared.fault.DeskFault.{DeskFault}
 use Rattle.site_shared.specs.declared.fault.DeskFault.TheVariants.{NoMemory}
 
@@ -25,7 +25,7 @@ module _ {D : Type 0} (stamp_of : D → Option Timestamp) where
 module _ {S : Type 0} (number_of : S → ℕ) (outbox_of : S → List ℕ) where
   pub session_answered : (waiter : Waiter) (place number : ℕ) (old new : List (Option S))
       → waiter.asker ≡ Session place number
-      → IsSeatAnswered number_of outbox_of place number (SaysHeld waiter.held) old new
+      → IsPlaceAnswered number_of outbox_of place number (SaysHeld waiter.held) old new
       → AreAnswered old new number_of outbox_of (waiter ∷ [])
   session_answered waiter place number old new is seat = (
     new,

@@ -1,7 +1,7 @@
 -- The session that is answered at a place is the one that was found there.
 use Rattle.std.proofs.Common.{◌≡◌, ◌≢◌, ◌<◌, ◌≤◌, true, ltb, ℕ, List, length, get_or, slice_get, slice_set, Option, None, Some, ap, refl, sym, ◌∙◌}
 use Rattle.std.proofs.Common.{arith, subst}
-use Rattle.site_serve.specs.Answered.{GoesOnWith, IsSeatAfter}
+use Rattle.site_serve.specs.Answered.{GoesOnWith, IsPlaceAfter}
 use Rattle.site_serve.specs.declared.jobs.Work.{Work}
 use Rattle.site_serve.specs.declared.jobs.Work.TheVariants.{Admitted, Barred, Entered, KeyLookedAt, Left, Looked}
 use Rattle.site_serve.specs.declared.session.Session.{Session}
@@ -67,7 +67,7 @@ listed : {J : Type 0} (work : Work) (before after last : Session J) → last ≡
 listed work before after last is goes = subst (λ s. GoesOnWith work before s) (sym is) goes
 
 seat_after : {J : Type 0} (work : Work) (before after last : Session J) → work ≢ Left → GoesOnWith work before after
-    → last ≡ record after { is_listed = true } → IsSeatAfter work before (Some last)
+    → last ≡ record after { is_listed = true } → IsPlaceAfter work before (Some last)
 seat_after (Looked text answered) before after last stays goes is =
     (last, refl, listed (Looked text answered) before after last is goes)
 seat_after (Admitted admitted) before after last stays goes is =
@@ -81,7 +81,7 @@ seat_after Left before after last stays goes is = absurd (stays refl)
 
 pub seat_goes_on : {J : Type 0} (work : Work) (seat : Option (Session J)) (one mine after last : Session J)
     → seat ≡ Some one → seat ≡ Some mine → work ≢ Left → GoesOnWith work mine after
-    → last ≡ record after { is_listed = true } → IsSeatAfter work one (Some last)
+    → last ≡ record after { is_listed = true } → IsPlaceAfter work one (Some last)
 seat_goes_on work seat one mine after last is own stays goes same =
     seat_after work one after last stays
     (subst (λ s. GoesOnWith work s after) (same_one seat one mine is own) goes) same

@@ -12,7 +12,7 @@ use Rattle.site_serve.specs.declared.ask.Ask.{Ask}
 use Rattle.site_serve.specs.declared.ask.Ask.TheVariants as ask
 use Rattle.site_serve.specs.declared.ask.Asker.{Asker}
 use Rattle.site_serve.specs.declared.ask.Asker.TheVariants as asker
-use Rattle.site_serve.specs.declared.desk.Waiter.{Waiter}
+use Rattle.site_serve.specs.declared.requests.Waiter.{Waiter}
 use Rattle.site_shared.specs.Accounts.{Account, RefusesIntake, holding, next_operation, record_of}
 use Rattle.site_shared.specs.declared.fault.DeskFault.{DeskFault}
 

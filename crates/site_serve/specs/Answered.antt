@@ -13,7 +13,7 @@ use Rattle.site_serve.specs.Rights.{IsSameAccess, IsSameRight}
 use Rattle.site_serve.specs.declared.ask.Asker.{Asker}
 use Rattle.site_serve.specs.declared.ask.Asker.TheVariants as asker
 use Rattle.site_serve.specs.declared.channel.ChannelMode.TheVariants.{Sealed, Shut}
-use Rattle.site_serve.specs.declared.desk.Waiter.{Waiter}
+use Rattle.site_serve.specs.declared.requests.Waiter.{Waiter}
 use Rattle.site_serve.specs.SitePorts.{port_fault_of}
 use Rattle.site_serve.specs.declared.jobs.Work.{Work}
 use Rattle.site_serve.specs.declared.jobs.Work.TheVariants.{Admitted, Barred, Entered, KeyLookedAt, Left, Looked}
@@ -58,14 +58,14 @@ IsSealedBy wire old new =
     ⊎ ((new.channel.mode ≡ Shut) × (new.outbox ≡ []) × (is_some new.ending ≡ true))
 
 -- a session is admitted: its bytes are sealed from now on, and it may send bodies if its key has the role `feed`
-abbrev pub IsLetIn : {J : Type 0} → Role → Wiring → Session J → Session J → Type 0
-IsLetIn role wire old new =
+abbrev pub IsAdmitted : {J : Type 0} → Role → Wiring → Session J → Session J → Type 0
+IsAdmitted role wire old new =
     IsSameRight (record old { may_take = new.may_take; key_seen = new.key_seen }) new
     × (IsTrue new.may_take ↔ role ≡ Feed) × IsSealedBy wire old new
 
 -- a session isn't admitted: it ends, and its channel stays as it was, or nothing more is sent
-abbrev pub IsKeptOut : {J : Type 0} → Session J → Session J → Type 0
-IsKeptOut old new =
+abbrev pub IsRejected : {J : Type 0} → Session J → Session J → Type 0
+IsRejected old new =
     IsSameRight old new × (is_some new.ending ≡ true)
     × (((new.channel.mode ≡ old.channel.mode) × (new.outbox ≡ old.outbox))
     ⊎ ((new.channel.mode ≡ Shut) × (new.outbox ≡ [])))
@@ -79,20 +79,20 @@ HasRole role old new =
 -- how a session goes on after a worker's reply
 abbrev pub GoesOnWith : {J : Type 0} → Work → Session J → Session J → Type 0
 GoesOnWith (Looked text answered) old new = IsSameAccess old new × TakesText text.items answered old new
-GoesOnWith (Admitted admitted) old new = IsLetIn admitted.role admitted.wire old new
-GoesOnWith (Barred answer) old new = IsKeptOut old new
+GoesOnWith (Admitted admitted) old new = IsAdmitted admitted.role admitted.wire old new
+GoesOnWith (Barred answer) old new = IsRejected old new
 GoesOnWith (KeyLookedAt role) old new = HasRole role old new
 GoesOnWith Entered old new = IsSameAccess old new × (new.outbox ≡ old.outbox)
 GoesOnWith Left old new = IsSameAccess old new × (new.outbox ≡ old.outbox)
 
 -- its place afterwards: empty if it has left, else it has the session after the reply
-abbrev pub IsSeatAfter : {J : Type 0} → Work → Session J → Option (Session J) → Type 0
-IsSeatAfter Left session seat = seat ≡ None
-IsSeatAfter work session seat = (after : _) × (seat ≡ Some after) × GoesOnWith work session after
+abbrev pub IsPlaceAfter : {J : Type 0} → Work → Session J → Option (Session J) → Type 0
+IsPlaceAfter Left session seat = seat ≡ None
+IsPlaceAfter work session seat = (after : _) × (seat ≡ Some after) × GoesOnWith work session after
 
 module _ {S : Type 0} (number_of : S → ℕ) (outbox_of : S → List ℕ) where
   -- the session with this number at this place is answered, if it is still there; no other session is
-  pub record IsSeatAnswered (place number : ℕ) (Says : List ℕ → List ℕ → Type 0) (old new : List (Option S)) : Type 0 where
+  pub record IsPlaceAnswered (place number : ℕ) (Says : List ℕ → List ℕ → Type 0) (old new : List (Option S)) : Type 0 where
     pub others : (other : ℕ) → other ≢ place → slice_get new other ≡ slice_get old other
     pub strangers : (session : S) → slice_get old place ≡ Some (Some session) → number_of session ≢ number
         → slice_get new place ≡ Some (Some session)
@@ -101,7 +101,7 @@ module _ {S : Type 0} (number_of : S → ℕ) (outbox_of : S → List ℕ) where
 
   -- the sender of a request is answered: a session at its place, or a puller by its channel
   abbrev pub IsAskerAnswered : Asker → (List ℕ → List ℕ → Type 0) → List (Option S) → List (Option S) → Type 0
-  IsAskerAnswered (asker.Session place number) Says old new = IsSeatAnswered place number Says old new
+  IsAskerAnswered (asker.Session place number) Says old new = IsPlaceAnswered place number Says old new
   IsAskerAnswered (asker.Puller puller) Says old new = new ≡ old
 
   -- the waiters are answered one after the other, each for what was held for it

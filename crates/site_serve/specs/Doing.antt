@@ -18,7 +18,7 @@ use Rattle.site_serve.specs.LookedAtKeys.{due_key}
 use Rattle.site_serve.specs.Outboxes.{Adds, MaySayLong}
 use Rattle.site_serve.specs.Rights.{HasHadLine, IsSameRight}
 use Rattle.site_serve.specs.declared.ask.Asker.{Asker}
-use Rattle.site_serve.specs.declared.desk.Waiter.{Waiter}
+use Rattle.site_serve.specs.declared.requests.Waiter.{Waiter}
 use Rattle.site_serve.specs.declared.session.Session.{Session}
 use Rattle.site_shared.specs.Accounts.{Account}
 

@@ -3,14 +3,14 @@ use Rattle.std.specs.Prelude.{◌≡◌, ◌⊎◌, ◌<◌, ◌+◌, ◌-◌, �
 use Rattle.std.specs.Arc.{arc_value}
 use Rattle.gate_rules.specs.Rules.{GateRules}
 use Rattle.site_serve.specs.declared.reloads.InForce.{InForce}
-use Rattle.site_serve.specs.declared.ruling.Ruling.{Ruling}
+use Rattle.site_serve.specs.declared.gate_follower.GateFollower.{GateFollower}
 
 abbrev pub gate_in : InForce → GateRules
 gate_in in_force = arc_value in_force.gate
 
 -- the gate that a thread judges under
-abbrev pub ruling_gate : Ruling → GateRules
-ruling_gate ruling = gate_in ruling.in_force
+abbrev pub followed_gate : GateFollower → GateRules
+followed_gate follower = gate_in follower.in_force
 
 -- the later gate is the same, or has a greater number
 abbrev pub IsNoOlder : InForce → InForce → Type 0

@@ -1,7 +1,7 @@
 -- The options that a site runs with, from its setup.
 use Rattle.std.specs.Prelude.{◌≡◌, ◌*◌, ℕ, Option, None, Some, if◌then◌else◌, nat_lt, option_map}
 use Rattle.std.specs.Duration.{as_nanos}
-use Rattle.site_serve.specs.declared.common.SiteOptions.{SiteOptions}
+use Rattle.site_serve.specs.declared.site_context.SiteOptions.{SiteOptions}
 use Rattle.site_serve.specs.declared.setup.Setup.{Setup}
 
 -- for how many nanoseconds a session may send no whole line, given the milliseconds of the setup; no limit if these are

@@ -33,7 +33,7 @@ impl<T: KeyReader> Admission<'_, T> {
         match self.admitted(alloc, credential) {
             Ok(Some(admitted)) => return Work::Admitted(admitted),
             Ok(None) => {}
-            Err(fault) => errors.no_keys(rt, alloc, fault, self.keys.unwrap_or("")),
+            Err(fault) => errors.report_key_fault(rt, alloc, fault, self.keys.unwrap_or("")),
         }
         Work::Barred(refusal_line(alloc).unwrap_or(Vec::new(alloc)))
     }
@@ -51,7 +51,7 @@ impl<T: KeyReader> Admission<'_, T> {
         let role = match self.reader.keys(name) {
             Ok(keys) => keys.letting_in(&id).map(Key::role),
             Err(fault) => {
-                errors.no_keys(rt, alloc, fault, name);
+                errors.report_key_fault(rt, alloc, fault, name);
                 None
             }
         };

@@ -1,6 +1,6 @@
 //! The channel between the bytes of a connection and the lines of its session: plain or sealed.
 
-ghost use Rattle.std.specs.Prelude.{◌≡◌, ◌≤◌, ◌++◌, [], Err, MatchResult, Ok, OnOk, if◌then◌else◌, length};
+ghost use Rattle.std.specs.Prelude.{◌≡◌, ◌≤◌, ◌++◌, [], Err, MatchResult, Ok, OnOk, length};
 ghost use Rattle.gossip_line.specs.declared.fault.LineFault.TheVariants.{NoMemory};
 ghost use Rattle.site_serve.specs.Channels.{IsSent, SealsMore, TakesCame, outgoing_of, seal_fault, seal_result};
 ghost use Rattle.site_serve.specs.Channels.{sends_of};
@@ -54,13 +54,13 @@ pub(super) struct Channel {
 }
 
 impl Channel {
-    /// A plain channel, or one that is locked until a key admits the connection.
-    pub(super) fn new(alloc: Global, is_locked: bool) -> Channel
-        ensures mode { result.mode ≡ (if is_locked then Locked else Plain) }
+    /// A channel in this mode, of which nothing was read or sent.
+    pub(super) fn new(alloc: Global, mode: ChannelMode) -> Channel
+        ensures mode { result.mode ≡ mode }
         ensures first { result.first ≡ [] }
     {
         Channel {
-            mode: first_mode(is_locked),
+            mode,
             greeting: Vec::new(alloc),
             first: Outbox::new(alloc),
         }
@@ -91,7 +91,7 @@ impl Channel {
     }
 
     /// Admits the connection, and sends the answer: from now on its lines are sealed.
-    pub(super) fn let_in(&mut self, answer: Vec<u8>, wire: Wire) -> Result<(), SessionFault>
+    pub(super) fn admit(&mut self, answer: Vec<u8>, wire: Wire) -> Result<(), SessionFault>
         ensures mode { self.new.mode ≡ Sealed wire }
         ensures first { OnOk result (self.new.first ≡ self.old.first ++ answer.items) }
     {
@@ -100,7 +100,7 @@ impl Channel {
     }
 
     /// Sends the answer that the connection isn't admitted.
-    pub(super) fn keep_out(&mut self, answer: Vec<u8>) -> Result<(), SessionFault>
+    pub(super) fn reject(&mut self, answer: Vec<u8>) -> Result<(), SessionFault>
         ensures mode { self.new.mode ≡ self.old.mode }
         ensures first { OnOk result (self.new.first ≡ self.old.first ++ answer.items) }
     {
@@ -169,17 +169,6 @@ impl Channel {
             _ => true,
         };
         self.first.len() == 0 && is_sealed_sent
-    }
-}
-
-/// The mode of a new channel.
-fn first_mode(is_locked: bool) -> ChannelMode
-    ensures { result ≡ (if is_locked then Locked else Plain) }
-{
-    if is_locked {
-        ChannelMode::Locked
-    } else {
-        ChannelMode::Plain
     }
 }
 

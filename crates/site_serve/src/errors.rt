@@ -33,28 +33,34 @@ impl<E: Drain> Errors<E> {
     }
 
     /// Writes that a session ended with a fault.
-    pub fn session_failed(&self, rt: &impl Wait, alloc: Global, fault: SessionFault, session: u64) {
+    pub fn report_session_fault(
+        &self,
+        rt: &impl Wait,
+        alloc: Global,
+        fault: SessionFault,
+        session: u64,
+    ) {
         if let Ok(line) = line_about(alloc, Part::Session, fault.number(), fault.name(), session) {
             self.write(rt, line.as_str());
         }
     }
 
     /// Writes that a connection was closed, since as many as may be are open.
-    pub fn too_many(&self, rt: &impl Wait, alloc: Global, open: usize) {
+    pub fn report_too_many(&self, rt: &impl Wait, alloc: Global, open: usize) {
         if let Ok(line) = line_about(alloc, Part::Session, 9, "TooMany", open as u64) {
             self.write(rt, line.as_str());
         }
     }
 
     /// Writes that the system refused a connection, where so many are open.
-    pub fn not_accepted(&self, rt: &impl Wait, alloc: Global, open: u64) {
+    pub fn report_not_accepted(&self, rt: &impl Wait, alloc: Global, open: u64) {
         if let Ok(line) = line_about(alloc, Part::Session, 12, "NotAccepted", open) {
             self.write(rt, line.as_str());
         }
     }
 
     /// Writes that a pull from a peer failed.
-    pub fn pull_failed(
+    pub fn report_pull_fault(
         &self,
         rt: &impl Wait,
         alloc: Global,
@@ -67,28 +73,28 @@ impl<E: Drain> Errors<E> {
     }
 
     /// Writes that a peer can't be reached.
-    pub fn not_reached(&self, rt: &impl Wait, alloc: Global, peer: PeerAddress<'_>) {
+    pub fn report_unreachable(&self, rt: &impl Wait, alloc: Global, peer: PeerAddress<'_>) {
         if let Ok(line) = line_of_peer(alloc, 8, "Unreachable", peer) {
             self.write(rt, line.as_str());
         }
     }
 
     /// Writes that the pulls from a peer don't end: it reports that more is left, and sends nothing new.
-    pub fn has_no_end(&self, rt: &impl Wait, alloc: Global, peer: PeerAddress<'_>) {
+    pub fn report_endless_pull(&self, rt: &impl Wait, alloc: Global, peer: PeerAddress<'_>) {
         if let Ok(line) = line_of_peer(alloc, 10, "NoEnd", peer) {
             self.write(rt, line.as_str());
         }
     }
 
     /// Writes that a pull from a peer succeeded again.
-    pub fn is_back(&self, rt: &impl Wait, alloc: Global, peer: PeerAddress<'_>) {
+    pub fn report_recovered(&self, rt: &impl Wait, alloc: Global, peer: PeerAddress<'_>) {
         if let Ok(line) = line_of_peer(alloc, 0, "Back", peer) {
             self.write(rt, line.as_str());
         }
     }
 
     /// Writes that the handshake with a peer failed.
-    pub fn not_dialed(
+    pub fn report_dial_fault(
         &self,
         rt: &impl Wait,
         alloc: Global,
@@ -102,29 +108,35 @@ impl<E: Drain> Errors<E> {
     }
 
     /// Writes that the key for a peer can't be used.
-    pub fn no_key_of(&self, rt: &impl Wait, alloc: Global, fault: KeyFault, peer: PeerAddress<'_>) {
+    pub fn report_peer_key_fault(
+        &self,
+        rt: &impl Wait,
+        alloc: Global,
+        fault: KeyFault,
+        peer: PeerAddress<'_>,
+    ) {
         let mut name = String::new(alloc);
         if peer.write(&mut name).is_ok() {
-            self.no_keys(rt, alloc, fault, name.as_str());
+            self.report_key_fault(rt, alloc, fault, name.as_str());
         }
     }
 
     /// Writes that the file of keys, or a key of it, can't be used, with the name of the file or of a peer.
-    pub fn no_keys(&self, rt: &impl Wait, alloc: Global, fault: KeyFault, name: &str) {
+    pub fn report_key_fault(&self, rt: &impl Wait, alloc: Global, fault: KeyFault, name: &str) {
         if let Ok(line) = keys_line(alloc, fault, name) {
             self.write(rt, line.as_str());
         }
     }
 
     /// Writes why a report couldn't be made.
-    pub fn not_shown(&self, rt: &impl Wait, alloc: Global, fault: ServeFault) {
+    pub fn report_serve_fault(&self, rt: &impl Wait, alloc: Global, fault: ServeFault) {
         if let Ok(line) = refusal_line(alloc, Part::Serve, fault.number(), fault.name()) {
             self.write(rt, line.as_str());
         }
     }
 
     /// Writes that the output didn't take what was printed.
-    pub fn not_printed(&self, rt: &impl Wait, alloc: Global) {
+    pub fn report_output_fault(&self, rt: &impl Wait, alloc: Global) {
         if let Ok(line) = refusal_line(alloc, Part::Output, 1, "WriteFault") {
             self.write(rt, line.as_str());
         }

@@ -6,16 +6,16 @@ ghost use Rattle.std.specs.Arc.{arc_value};
 ghost use Rattle.site_shared.specs.Accounts.{receipt_of};
 
 use super::ask::Answer;
-use super::desk::Published;
 use super::errors::Errors;
 use super::group_commit::{GroupCommit, NotKept};
 use super::jobs::{Job, Task};
-use super::lines::{LineContext, do_lines};
+use super::lines::{LineContext, Room, do_lines};
 use super::listeners::Listeners;
 use super::metrics::Metrics;
 use super::news::News;
 use super::opening::Opening;
 use super::places::Places;
+use super::requests::Published;
 use super::session::{Connection, Session};
 use super::thread_ends::LoopEnds;
 use byte_ends::Drain;
@@ -72,9 +72,8 @@ pub(super) struct EventLoop {
     accepted: u64,
     ended: u64,
     may_accept: bool,
-    /// Whether there was room for what more fronts lack, and for more reports and states, when the clock was looked at.
-    has_room: bool,
-    has_long_room: bool,
+    /// Which looks there was room for when the clock was looked at.
+    room: Room,
     is_woken: bool,
     /// Whether the thread that prints reports is still to be notified of a publish.
     is_news_due: bool,
@@ -124,8 +123,7 @@ impl EventLoop {
             accepted: 0,
             ended: 0,
             may_accept: true,
-            has_room: true,
-            has_long_room: true,
+            room: Room::All,
             is_woken: false,
             is_news_due: false,
             now: Duration::ZERO,
@@ -206,7 +204,8 @@ impl EventLoop {
     fn refuse<R: Wait, E: Drain, J: Naming>(&mut self, rt: &R, site: &Site<'_, E, J>) {
         site.metrics.note_refused();
         if self.may_say_refused() {
-            site.errors.too_many(rt, self.alloc, self.connections);
+            site.errors
+                .report_too_many(rt, self.alloc, self.connections);
         }
     }
 
@@ -215,7 +214,7 @@ impl EventLoop {
     fn note_not_accepted<R: Wait, E: Drain, J: Naming>(&mut self, rt: &R, site: &Site<'_, E, J>) {
         if self.may_say_refused() {
             let open = self.accepted.wrapping_sub(self.ended);
-            site.errors.not_accepted(rt, self.alloc, open);
+            site.errors.report_not_accepted(rt, self.alloc, open);
         }
     }
 
@@ -285,8 +284,7 @@ impl EventLoop {
                     place,
                     number: session.number,
                     moment: self.now,
-                    has_room: self.has_room,
-                    has_long_room: self.has_long_room,
+                    room: self.room,
                     metrics,
                     jobs: &ends.jobs,
                 };
@@ -308,7 +306,7 @@ impl EventLoop {
             if let Some(session) = places.session(place) {
                 session.write(self.now);
                 if session.is_over() {
-                    session.go_away();
+                    session.await_worker();
                     session.close();
                     let (number, ended) = (session.number, session.ended());
                     send_job(rt, ends, place, number, Task::Leave(ended));
@@ -326,16 +324,15 @@ impl EventLoop {
         }
         self.looked = self.now;
         self.may_accept = true;
-        self.has_room = places.waiting_bytes(SHORT_ANSWERS) <= WAITING_ANSWERS;
-        self.has_long_room = places.waiting_bytes(usize::MAX) <= WAITING_ANSWERS;
+        self.room = room_in(places);
         self.end_sessions(places);
     }
 
     /// Ends the sessions that timed out, and all sessions if the site stops.
     fn end_sessions<J: Naming>(&mut self, places: &mut Places<J>) {
         for place in 0..places.count() {
-            if self.has_room {
-                places.let_go(place);
+            if self.room != Room::None {
+                places.unthrottle(place);
             }
             places.end_if_over(place, self.patience, self.now, self.stopped.is_some());
         }
@@ -355,6 +352,17 @@ impl EventLoop {
             return false;
         };
         places.are_free() || self.now.saturating_sub(stopped) >= Duration::from_millis(LAST_MS)
+    }
+}
+
+/// Which looks there is room for, given how many bytes of answers are unread.
+fn room_in<J: Naming>(places: &Places<J>) -> Room {
+    if places.waiting_bytes(usize::MAX) <= WAITING_ANSWERS {
+        Room::All
+    } else if places.waiting_bytes(SHORT_ANSWERS) <= WAITING_ANSWERS {
+        Room::Fronts
+    } else {
+        Room::None
     }
 }
 

@@ -3,7 +3,7 @@
 use super::admission::Admission;
 use super::errors::Errors;
 use super::laws::sites_that_pulled_print_the_same;
-use super::metrics::Metrics;
+use super::metrics::{Metrics, PullOutcome};
 use super::port::PullPort;
 use byte_ends::{Drain, Ends, Source};
 use gossip_line::{LineFault, pull_run};
@@ -72,8 +72,8 @@ pub struct Pulling<'a, T: KeyReader> {
 const LONGEST_PAUSE_S: u64 = 60;
 
 /// Pulls from each peer in turn, with a rest after each round, until the site stops: a pause, which doubles with each
-/// round in which no pull ended well, up to a minute. It asks for the stop where another process takes in as this site.
-/// What pulls that end well come to is the law of `sites_that_pulled_print_the_same`.
+/// round in which no pull was complete, up to a minute. It asks for the stop if another process takes in as this site.
+/// The law about complete pulls is `sites_that_pulled_print_the_same`.
 pub fn pull_from_peers<R, E, T, J>(
     rt: &R,
     pulling: &Pulling<'_, T>,
@@ -110,7 +110,7 @@ fn longer(rest: Duration, pause: Duration) -> Duration {
     rest.saturating_mul(2).min(longest)
 }
 
-/// Pulls from each peer once, unless the site stops. Whether a pull ended well.
+/// Pulls from each peer once, unless the site stops. Returns whether a pull was complete.
 fn pull_round<R, E, T, J>(
     rt: &R,
     pulling: &Pulling<'_, T>,
@@ -124,28 +124,35 @@ where
     T: KeyReader,
     J: Naming,
 {
-    let mut is_well = false;
+    let mut is_any_complete = false;
     for peer in peers {
         let Some(address) = pulling.addresses.get(peer.place) else {
-            return is_well;
+            return is_any_complete;
         };
         let condition = pull_from(rt, pulling, *address, port);
-        is_well |= condition == Condition::Well;
-        pulling
-            .metrics
-            .note_pull(rt, peer.place, condition == Condition::Well);
+        let outcome = outcome_of(condition);
+        is_any_complete |= outcome == PullOutcome::Complete;
+        pulling.metrics.note_pull(rt, peer.place, outcome);
         if port.sink().is_start_taken() {
             pulling.stop.ask(rt);
         }
         if pulling.stop.is_asked() {
-            return is_well;
+            return is_any_complete;
         }
         if condition != peer.condition {
             peer.condition = condition;
             report_condition(rt, pulling.alloc, *address, condition, errors);
         }
     }
-    is_well
+    is_any_complete
+}
+
+/// The outcome of a pull that ended so.
+fn outcome_of(condition: Condition) -> PullOutcome {
+    match condition {
+        Condition::Well => PullOutcome::Complete,
+        _ => PullOutcome::Failed,
+    }
 }
 
 /// Reports the condition of a peer: a failure, or that it is reachable again.
@@ -157,12 +164,12 @@ fn report_condition<E: Drain>(
     errors: &Errors<E>,
 ) {
     match condition {
-        Condition::Well => errors.is_back(rt, alloc, peer),
-        Condition::Unreachable => errors.not_reached(rt, alloc, peer),
-        Condition::Failed(fault) => errors.pull_failed(rt, alloc, fault, peer),
-        Condition::Endless => errors.has_no_end(rt, alloc, peer),
-        Condition::Undialed(fault) => errors.not_dialed(rt, alloc, fault, peer),
-        Condition::Unkeyed(fault) => errors.no_key_of(rt, alloc, fault, peer),
+        Condition::Well => errors.report_recovered(rt, alloc, peer),
+        Condition::Unreachable => errors.report_unreachable(rt, alloc, peer),
+        Condition::Failed(fault) => errors.report_pull_fault(rt, alloc, fault, peer),
+        Condition::Endless => errors.report_endless_pull(rt, alloc, peer),
+        Condition::Undialed(fault) => errors.report_dial_fault(rt, alloc, fault, peer),
+        Condition::Unkeyed(fault) => errors.report_peer_key_fault(rt, alloc, fault, peer),
     }
 }
 

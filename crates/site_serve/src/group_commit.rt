@@ -11,9 +11,9 @@ ghost use Rattle.site_shared.specs.Accounts.{receipt_of, record_of};
 ghost use Rattle.site_shared.specs.Publishes.{arrive};
 
 use super::ask::{Answer, Ask};
-use super::desk::{Published, Waiter, hold_ask, reply_all, shared};
 use super::opening::{Opening, OwnLedger};
 use super::places::Places;
+use super::requests::{Published, Waiter, hold_ask, reply_all, shared};
 use crossbeam_channel::Sender;
 use site_ledger::{Keeps, LedgerFault, Remains};
 use site_shared::DeskFault;

@@ -68,7 +68,7 @@ impl Inbox {
     }
 
     /// Skips a line of this size and its line end.
-    pub(super) fn pass(&mut self, size: usize)
+    pub(super) fn skip_line(&mut self, size: usize)
         requires { size < length self.old }
         ensures { self.new ≡ drop (size + 1) self.old }
     {

@@ -12,9 +12,9 @@
 //! use std::sync::Arc;
 //! #[derive(Drop)]
 //! struct Quiet;
-//! impl Turn for Quiet {
-//!     fn enter(&self, _session: u64) {}
-//!     fn left(&self, _session: u64) {}
+//! impl SessionHooks for Quiet {
+//!     fn before(&self, _session: u64) {}
+//!     fn after(&self, _session: u64) {}
 //! }
 //! impl KeyReader for Quiet {
 //!     fn keys(&self, name: &str) -> Result<Keys, KeyFault> {
@@ -54,21 +54,18 @@
 mod admission;
 mod ask;
 mod channel;
-mod closed;
-mod common;
-mod desk;
+mod ended;
 mod errors;
-mod evaluator;
 mod event_loop;
+mod gate_follower;
 mod gossip;
 mod group_commit;
 mod inbox;
 mod jobs;
-mod kept;
+mod kept_verdicts;
 mod laws;
 mod lines;
 mod listeners;
-mod looks;
 mod metrics;
 mod news;
 mod opening;
@@ -77,19 +74,22 @@ mod pages;
 mod places;
 mod port;
 mod reloads;
-mod ruling;
+mod reports;
+mod requests;
 mod run;
 mod session;
 mod session_fault;
 mod setup;
+mod site_context;
 mod thread_ends;
 mod threads;
 mod wakeup;
+mod workers;
 
-pub use closed::Closed;
+pub use ended::EndedSite;
 pub use laws::{
     answered_stamps_survive, pulls_of_sites_pass_on_all, sites_that_pulled_print_the_same,
 };
 pub use reloads::Reloads;
 pub use run::{serve_keeping, serve_run};
-pub use setup::{PageSetup, Prints, ServeFault, Served, Setup, Turn};
+pub use setup::{PageSetup, Prints, ServeFault, Served, SessionHooks, Setup};

@@ -38,6 +38,17 @@ use std::time::Duration;
 /// How many lines of a session are handled in a turn at most.
 const LINES_A_TURN: usize = 64;
 
+/// Which looks may be answered, given how many bytes of answers are unread.
+#[derive(Clone, Copy, PartialEq)]
+pub(super) enum Room {
+    /// All: `ready`, `state` and `front`.
+    All,
+    /// `front` alone.
+    Fronts,
+    /// None.
+    None,
+}
+
 /// The session whose lines are handled, and what that needs.
 #[derive(Drop)]
 pub(super) struct LineContext<'a, J: Naming> {
@@ -46,16 +57,13 @@ pub(super) struct LineContext<'a, J: Naming> {
     pub place: usize,
     pub number: u64,
     pub moment: Duration,
-    /// Whether `front` may be answered, and whether `ready` and `state` may be, given how many answers are unread.
-    pub has_room: bool,
-    pub has_long_room: bool,
+    pub room: Room,
     pub metrics: &'a Metrics,
     pub jobs: &'a Sender<Job<J>, Global>,
 }
 
 /// Handles the lines of a session that have come, at most `LINES_A_TURN`. After a `take` only further `take`
 /// lines are handled until the publish.
-/// publish.
 #[tactic(auto, using(crate::proofs::Waiting::steps_within))]
 pub(super) fn do_lines<R: Wait, J: Opening, K: Keeps>(
     rt: &R,
@@ -131,7 +139,7 @@ fn look_at_key<R: Wait, J: Naming>(
     ensures inbox { session.new.inbox ≡ session.old.inbox }
     ensures access { IsSameAccess session.old session.new }
 {
-    session.go_away();
+    session.await_worker();
     send_task(rt, context, Task::LookAtKey(key));
 }
 
@@ -149,8 +157,8 @@ fn read_on<R: Wait, J: Naming>(
     ensures came { ReadsOn session.old.channel.mode session.old.inbox session.new.channel.mode session.new.inbox }
     ensures right { IsSameRight (record session.old { key = session.new.key }) session.new }
 {
-    if session.is_spent() {
-        session.end_spent();
+    if session.has_used_up_lines() {
+        session.end_used_up();
         return false;
     }
     if session.inbox.is_too_long() {
@@ -191,7 +199,7 @@ fn ask_for<R: Wait, J: Naming>(
     ensures inbox { session.new.inbox ≡ session.old.inbox }
     ensures access { IsSameAccess (record session.old { key = session.new.key }) session.new }
 {
-    session.ask_by(credential);
+    session.await_check(credential);
     send_task(rt, context, Task::Admit(credential));
 }
 
@@ -233,8 +241,8 @@ fn do_line<R: Wait, J: Opening, K: Keeps>(
     ensures order { 0 < session.old.waiting → session.new.outbox ≡ session.old.outbox }
     ensures waits { 0 < session.old.waiting → 0 < session.new.waiting }
 {
-    if session.is_spent() {
-        session.end_spent();
+    if session.has_used_up_lines() {
+        session.end_used_up();
         return false;
     }
     if size > LINE_LIMIT {
@@ -253,11 +261,11 @@ fn do_line<R: Wait, J: Opening, K: Keeps>(
                 context.metrics.note_heard(context.moment);
             }
             session.say(context.alloc, saying);
-            session.pass(size);
+            session.skip_line(size);
             true
         }
-        Step::Looks(look) if !has_room_for(context, &look) => {
-            session.hold_back();
+        Step::Looks(look) if !has_room_for(context.room, &look) => {
+            session.throttle();
             false
         }
         Step::Looks(look) => {
@@ -267,11 +275,11 @@ fn do_line<R: Wait, J: Opening, K: Keeps>(
     }
 }
 
-/// Whether a look may be answered now, given how many answers are unread.
-fn has_room_for<J: Naming>(context: &LineContext<'_, J>, look: &Look) -> bool {
+/// Whether there is room for the answer to a look.
+fn has_room_for(room: Room, look: &Look) -> bool {
     match look {
-        Look::Missing(_) => context.has_room,
-        Look::Ready | Look::State => context.has_long_room,
+        Look::Missing(_) => room != Room::None,
+        Look::Ready | Look::State => room == Room::All,
     }
 }
 
@@ -307,14 +315,14 @@ fn take_body<J: Opening, K: Keeps>(
         };
         group.hold(Ask::Intake { asker, draft });
         session.await_publish();
-        session.pass(size);
+        session.skip_line(size);
         return true;
     }
     if session.is_waiting() {
         return false;
     }
     session.say(context.alloc, Saying::NotAllowed);
-    session.pass(size);
+    session.skip_line(size);
     true
 }
 
@@ -334,12 +342,12 @@ fn begin_look<R: Wait, J: Naming>(
     ensures had { HasHadLine session.old session.new }
     ensures waits { session.new.waiting ≡ session.old.waiting }
 {
-    session.pass(size);
+    session.skip_line(size);
     let Ok(job) = look_job(context, session, look) else {
         session.say(context.alloc, Saying::NoMemory);
         return;
     };
-    session.go_away();
+    session.await_worker();
     let _sent = context.jobs.send(rt, job);
 }
 

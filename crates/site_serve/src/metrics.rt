@@ -8,21 +8,29 @@ use std::time::{Clock, Duration, Instant};
 /// The value for "never".
 const NEVER: u64 = u64::MAX;
 
+/// How a pull from a peer ended.
+#[derive(Clone, Copy, PartialEq)]
+pub enum PullOutcome {
+    /// Nothing that the peer has was left.
+    Complete,
+    Failed,
+}
+
 /// The metrics of the pulls from a peer. Moments are counted from the beginning of the site.
 #[derive(Clone, Copy)]
 pub struct PeerMetrics {
-    /// Whether the last pull ended well.
-    pub is_well: bool,
-    /// Since when that is so.
+    /// How the last pull ended; `Failed` before the first.
+    pub outcome: PullOutcome,
+    /// Since when pulls end so.
     pub since: Duration,
-    /// When a pull ended well last.
-    pub last_well: Option<Duration>,
-    /// How many pulls ended well, and how many didn't.
+    /// When a pull was last complete.
+    pub last_complete: Option<Duration>,
+    /// How many pulls were complete, and how many failed.
     pub pulls: u64,
     pub failures: u64,
 }
 
-/// The metrics of a site. The values aren't read at one moment.
+/// The metrics of a site. Each value is read at a moment of its own.
 #[derive(Drop)]
 pub struct Metrics {
     begun: Option<Instant>,
@@ -54,9 +62,9 @@ impl Metrics {
         let mut peers = Vec::with_capacity(alloc, count)?;
         for _ in 0..count {
             peers.push(PeerMetrics {
-                is_well: false,
+                outcome: PullOutcome::Failed,
                 since: Duration::ZERO,
-                last_well: None,
+                last_complete: None,
                 pulls: 0,
                 failures: 0,
             })?;
@@ -83,7 +91,7 @@ impl Metrics {
         begun.elapsed(rt).ok()
     }
 
-    /// The desk has taken a turn, with so many sessions open.
+    /// Notes a turn of the event loop, with so many sessions open.
     pub fn note_turn(&self, now: Duration, sessions: u64) {
         self.turn_ms.store(millis(now), Ordering::Relaxed);
         self.sessions.store(sessions, Ordering::Relaxed);
@@ -120,28 +128,28 @@ impl Metrics {
         self.refused_connections.fetch_add(1, Ordering::Relaxed);
     }
 
-    /// The journal has so many bytes, if there is one.
+    /// Notes how many bytes the journal has, if there is one.
     pub fn note_journal(&self, bytes: Option<u64>) {
         self.journal_bytes
             .store(bytes.unwrap_or(NEVER), Ordering::Relaxed);
     }
 
-    /// What was held is kept now, with so many bytes in the journal, if there is one.
+    /// Notes that what was held was kept, and how many bytes the journal has, if there is one.
     pub fn note_kept(&self, bytes: Option<u64>) {
         self.note_journal(bytes);
         self.syncs.fetch_add(1, Ordering::Relaxed);
     }
 
-    /// A pull from the peer at this place among all of them ended, well or not.
-    pub fn note_pull<R: Wait + Clock>(&self, rt: &R, peer: usize, is_well: bool) {
+    /// Notes how a pull ended from the peer at this place among all of them.
+    pub fn note_pull<R: Wait + Clock>(&self, rt: &R, peer: usize, outcome: PullOutcome) {
         let now = self.now(rt).unwrap_or(Duration::ZERO);
         let mut peers = self.peers.lock(rt);
         if let Some(note) = peers.get_mut(peer) {
-            note.note(now, is_well);
+            note.note(now, outcome);
         }
     }
 
-    /// How long ago the desk took a turn.
+    /// How long ago the event loop took a turn.
     pub fn since_turn(&self, now: Duration) -> Duration {
         now.saturating_sub(Duration::from_millis(self.turn_ms.load(Ordering::Relaxed)))
     }
@@ -166,7 +174,7 @@ impl Metrics {
         self.sessions.load(Ordering::Relaxed)
     }
 
-    /// How many workers look now.
+    /// How many workers are doing a look.
     pub fn looking(&self) -> u64 {
         self.looking.load(Ordering::Relaxed)
     }
@@ -176,12 +184,12 @@ impl Metrics {
         self.session_faults.load(Ordering::Relaxed)
     }
 
-    /// How many connections were closed, since as many as may be were open.
+    /// How many connections were closed because the limit of connections was reached.
     pub fn refused_connections(&self) -> u64 {
         self.refused_connections.load(Ordering::Relaxed)
     }
 
-    /// What is noted of the journal, if there is one.
+    /// The metrics of the journal, if there is one.
     pub fn journal(&self) -> Option<JournalMetrics> {
         let bytes = self.journal_bytes.load(Ordering::Relaxed);
         if bytes == NEVER {
@@ -193,7 +201,7 @@ impl Metrics {
         })
     }
 
-    /// A copy of what is noted of the peers.
+    /// A copy of the metrics of the peers.
     pub fn peers<R: Wait>(&self, rt: &R, alloc: Global) -> Result<Vec<PeerMetrics>, AllocError> {
         let peers = self.peers.lock(rt);
         peers.as_slice().to_vec(alloc)
@@ -201,17 +209,18 @@ impl Metrics {
 }
 
 impl PeerMetrics {
-    /// A pull from it ended, well or not.
-    fn note(&mut self, now: Duration, is_well: bool) {
-        if is_well != self.is_well {
-            self.is_well = is_well;
+    /// Notes how a pull from it ended.
+    fn note(&mut self, now: Duration, outcome: PullOutcome) {
+        if outcome != self.outcome {
+            self.outcome = outcome;
             self.since = now;
         }
-        if is_well {
-            self.last_well = Some(now);
-            self.pulls = self.pulls.saturating_add(1);
-        } else {
-            self.failures = self.failures.saturating_add(1);
+        match outcome {
+            PullOutcome::Complete => {
+                self.last_complete = Some(now);
+                self.pulls = self.pulls.saturating_add(1);
+            }
+            PullOutcome::Failed => self.failures = self.failures.saturating_add(1),
         }
     }
 }

@@ -3,17 +3,17 @@
 ghost use Rattle.std.specs.Prelude.{◌≡◌, IfOk, IfSome, OnOk};
 ghost use Rattle.std.specs.Option.{ForSome};
 ghost use Rattle.ready_core.specs.Verdicts.{AreVerdicts, items_out};
-ghost use Rattle.site_serve.specs.InForce.{ruling_gate};
+ghost use Rattle.site_serve.specs.InForce.{followed_gate};
 ghost use Rattle.site_serve.specs.Pages.{IsPageOf, ShowsMoment};
 ghost use Rattle.site_shared.specs.Accounts.{GoesOn};
 ghost use Rattle.site_shared.specs.Publishes.{arrive};
 ghost use Rattle.state_core.specs.State.{state_of};
 ghost use Rattle.page_routes.specs.declared.page.Status.TheVariants.{Unavailable};
 
-use super::kept::brought_up;
-use super::metrics::{JournalMetrics, Metrics, PeerMetrics};
+use super::gate_follower::GateFollower;
+use super::kept_verdicts::up_to_date_watch;
+use super::metrics::{JournalMetrics, Metrics, PeerMetrics, PullOutcome};
 use super::opening::{OwnWatch, OwnWindow};
-use super::ruling::Ruling;
 use gate_rules::Gate;
 use page_routes::{Kind, Page, Route, Status};
 use page_server::{PageEndpoint, Pages, serve_pages};
@@ -57,7 +57,7 @@ pub(super) struct PageContext<'a, R> {
 /// these names, until the stop is asked. Where memory is refused for that nothing is shown.
 pub(super) fn show_pages<R: Wait + Clock, J: Naming>(
     context: PageContext<'_, R>,
-    ruling: Ruling<'_>,
+    follower: GateFollower<'_>,
     endpoint: PageEndpoint,
     hosts: &[String],
     stop: &Stop,
@@ -66,7 +66,7 @@ pub(super) fn show_pages<R: Wait + Clock, J: Naming>(
     let (rt, alloc) = (context.rt, context.alloc);
     let pages = SitePages {
         context,
-        ruling,
+        follower,
         window,
         kept: None,
         next: Duration::ZERO,
@@ -82,7 +82,7 @@ pub(super) fn show_pages<R: Wait + Clock, J: Naming>(
 #[derive(Drop)]
 struct SitePages<'a, R: Wait + Clock, J: Naming> {
     context: PageContext<'a, R>,
-    ruling: Ruling<'a>,
+    follower: GateFollower<'a>,
     window: OwnWindow<J>,
     kept: Option<OwnWatch<J>>,
     /// When the next look may begin, from the beginning of the site, unless nothing was published since the last one.
@@ -92,15 +92,15 @@ struct SitePages<'a, R: Wait + Clock, J: Naming> {
     requests: u64,
     refused_hosts: u64,
     update_us: u64,
-    ghost same_gate: { ForSome kept (λ watch. watch.watch.gate ≡ ruling_gate ruling) },
+    ghost same_gate: { ForSome kept (λ watch. watch.watch.gate ≡ followed_gate follower) },
 }
 
 impl<R: Wait + Clock, J: Naming> Pages for SitePages<'_, R, J> {
-    ghost use Rattle.site_serve.specs.InForce.{ruling_gate};
+    ghost use Rattle.site_serve.specs.InForce.{followed_gate};
     ghost use Rattle.site_serve.specs.Pages.{ShowsSite};
 
     ghost pages = { λ old route page new. GoesOn old.window.window new.window.window
-        × ShowsSite (ruling_gate new.ruling) new.window.window.seen route page };
+        × ShowsSite (followed_gate new.follower) new.window.window.seen route page };
 
     ghost moves = { λ old new. GoesOn old.window.window new.window.window };
 
@@ -132,12 +132,12 @@ impl<R: Wait + Clock, J: Naming> SitePages<'_, R, J> {
     fn show(&mut self, route: &Route, facts: &Facts) -> Result<Page, AllocError>
         ensures later { GoesOn self.old.window.window self.new.window.window }
         ensures page { IfOk result
-            (λ page. ShowsMoment (ruling_gate self.new.ruling) facts.now self.new.window.window.seen route.now page) }
+            (λ page. ShowsMoment (followed_gate self.new.follower) facts.now self.new.window.window.seen route.now page) }
     {
-        self.ruling.follow(self.context.rt, &mut self.kept);
+        self.follower.follow(self.context.rt, &mut self.kept);
         let begun = Instant::now(self.context.rt);
-        match brought_up(
-            self.ruling.in_force.gate(),
+        match up_to_date_watch(
+            self.follower.in_force.gate(),
             &mut self.window,
             self.kept.take(),
         ) {
@@ -156,16 +156,16 @@ impl<R: Wait + Clock, J: Naming> SitePages<'_, R, J> {
         facts: &Facts,
         watch: OwnWatch<J>,
     ) -> Result<Page, AllocError>
-        requires { watch.watch.gate ≡ ruling_gate self.old.ruling }
+        requires { watch.watch.gate ≡ followed_gate self.old.follower }
         ensures later { GoesOn self.old.window.window self.new.window.window }
         ensures page { IfOk result
-            (λ page. ShowsMoment (ruling_gate self.new.ruling) facts.now self.new.window.window.seen route.now page) }
+            (λ page. ShowsMoment (followed_gate self.new.follower) facts.now self.new.window.window.seen route.now page) }
     {
         let mut watch = watch;
         let mut viewing = Viewing {
             alloc: self.context.alloc,
             route,
-            gate: self.ruling.in_force.gate(),
+            gate: self.follower.in_force.gate(),
             facts,
             page: None,
         };
@@ -323,12 +323,12 @@ fn text_of(alloc: Global, address: PeerAddress<'_>) -> Result<String, AllocError
 
 /// What is known of a peer with this address now.
 fn peer_facts(peer: String, note: &PeerMetrics, now: Duration) -> PeerFacts {
-    let last_well = note.last_well.map(|then| now.saturating_sub(then));
+    let last_complete = note.last_complete.map(|then| now.saturating_sub(then));
     PeerFacts {
         peer,
-        is_reachable: note.is_well,
+        is_reachable: note.outcome == PullOutcome::Complete,
         condition_ms: millis(now.saturating_sub(note.since)),
-        good_ms: since(last_well),
+        good_ms: since(last_complete),
         pulls: note.pulls,
         failures: note.failures,
     }

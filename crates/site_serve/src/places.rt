@@ -1,7 +1,7 @@
 //! The sessions that are open, each at its place.
 
 ghost use Rattle.std.specs.Prelude.{◌≡◌, ◌≢◌, ℕ, IfErr, IfOk, Some, false, slice_get, true};
-ghost use Rattle.site_serve.specs.Answered.{GoesOnWith, IsSeatAfter, SaysFault, SaysStamp};
+ghost use Rattle.site_serve.specs.Answered.{GoesOnWith, IsPlaceAfter, SaysFault, SaysStamp};
 
 use super::ask::Answer;
 use super::jobs::{Reply, Work};
@@ -165,8 +165,8 @@ impl<J: Naming> Places<J> {
             → session.number ≢ reply.session
             → slice_get self.new.sessions.items reply.place ≡ Some (Some session) }
         ensures own { (session : _) → slice_get self.old.sessions.items reply.place ≡ Some (Some session)
-            → session.number ≡ reply.session → (seat : _) × (slice_get self.new.sessions.items reply.place ≡ Some seat)
-            × IsSeatAfter reply.work session seat }
+            → session.number ≡ reply.session → (slot : _) × (slice_get self.new.sessions.items reply.place ≡ Some slot)
+            × IsPlaceAfter reply.work session slot }
     {
         let Reply {
             place,
@@ -194,9 +194,9 @@ impl<J: Naming> Places<J> {
     }
 
     /// Lets the look of a session begin that waited for room.
-    pub(super) fn let_go(&mut self, place: usize) {
+    pub(super) fn unthrottle(&mut self, place: usize) {
         if let Some(session) = self.session(place) {
-            if session.let_go() {
+            if session.unthrottle() {
                 self.list(place);
             }
         }
@@ -255,7 +255,7 @@ fn leaves_with<J: Naming>(
 ) -> bool
     ensures strangers { (session : _) → slot.old ≡ Some session → session.number ≢ number → slot.new ≡ Some session }
     ensures own { (session : _) → slot.old ≡ Some session → session.number ≡ number
-        → IsSeatAfter work session slot.new }
+        → IsPlaceAfter work session slot.new }
 {
     let Some(session) = slot else {
         return false;
@@ -267,7 +267,7 @@ fn leaves_with<J: Naming>(
         *slot = None;
         return true;
     }
-    go_on(session, work, now);
+    apply_work(session, work, now);
     enlist(session, listed, place);
     false
 }
@@ -281,13 +281,13 @@ fn has_left(work: &Work) -> bool
 }
 
 /// Has a session go on with what a worker has done for it.
-fn go_on<J: Naming>(session: &mut Session<J>, work: Work, now: Duration)
+fn apply_work<J: Naming>(session: &mut Session<J>, work: Work, now: Duration)
     ensures { GoesOnWith work session.old session.new }
 {
     match work {
-        Work::Entered => session.come_back(),
-        Work::Admitted(admitted) => session.let_in(admitted, now),
-        Work::Barred(answer) => session.keep_out(answer),
+        Work::Entered => session.resume(),
+        Work::Admitted(admitted) => session.admit(admitted, now),
+        Work::Barred(answer) => session.reject(answer),
         Work::KeyLookedAt(role) => session.take_role(role, now),
         Work::Looked(text, answered) => session.take_text(text, answered),
         Work::Left => {}

@@ -6,15 +6,15 @@ ghost use Rattle.std.specs.Option.{ForSome};
 ghost use Rattle.replica_core.specs.Journal.{has_stamp};
 ghost use Rattle.replica_core.specs.JournalLaws.{IsPartOf};
 ghost use Rattle.site_port.specs.Ports.{IsLookingFault};
-ghost use Rattle.site_serve.specs.InForce.{ruling_gate};
+ghost use Rattle.site_serve.specs.InForce.{followed_gate};
 ghost use Rattle.site_serve.specs.SitePorts.{HaveStamps, port_fault_of, stamps_of};
 ghost use Rattle.site_shared.specs.Accounts.{GoesOn, is_foreign};
 ghost use Rattle.site_shared.specs.Publishes.{arrive};
 
 use super::ask::{Answer, Ask, Asker, DeskLink, Puller};
-use super::kept::{brought_up, copied};
+use super::gate_follower::GateFollower;
+use super::kept_verdicts::{up_to_date_watch, verdicts_copy};
 use super::opening::{OwnWatch, OwnWindow};
-use super::ruling::Ruling;
 use mio::Waker;
 use ready_core::Verdicts;
 use replica_core::{Front, Missing, Replica};
@@ -32,11 +32,11 @@ const ANSWER_LIMIT: usize = 256;
 pub struct SitePort<'a, 'g, R: Wait, J: Naming> {
     rt: &'a R,
     alloc: Global,
-    ruling: Ruling<'g>,
+    follower: GateFollower<'g>,
     window: OwnWindow<J>,
     /// The verdicts of the last report.
     kept: Option<OwnWatch<J>>,
-    ghost under_gate: { ForSome kept (λ watch. watch.watch.gate ≡ ruling_gate ruling) },
+    ghost under_gate: { ForSome kept (λ watch. watch.watch.gate ≡ followed_gate follower) },
 }
 
 impl<'a, 'g, R: Wait, J: Naming> SitePort<'a, 'g, R, J> {
@@ -44,13 +44,13 @@ impl<'a, 'g, R: Wait, J: Naming> SitePort<'a, 'g, R, J> {
     pub fn new(
         rt: &'a R,
         alloc: Global,
-        ruling: Ruling<'g>,
+        follower: GateFollower<'g>,
         window: OwnWindow<J>,
     ) -> SitePort<'a, 'g, R, J> {
         SitePort {
             rt,
             alloc,
-            ruling,
+            follower,
             window,
             kept: None,
         }
@@ -60,13 +60,13 @@ impl<'a, 'g, R: Wait, J: Naming> SitePort<'a, 'g, R, J> {
     pub fn follow(&mut self)
         ensures { self.new.window ≡ self.old.window }
     {
-        self.ruling.follow(self.rt, &mut self.kept);
+        self.follower.follow(self.rt, &mut self.kept);
     }
 
     /// From now on it sees at least the publish of the receipt. False for a receipt of another opening.
     pub fn learn(&mut self, receipt: &BrandedReceipt<J>) -> bool
         ensures later { GoesOn self.old.window.window self.new.window.window }
-        ensures gate { self.new.ruling ≡ self.old.ruling }
+        ensures gate { self.new.follower ≡ self.old.follower }
         ensures learnt { result ≡ true → IsPartOf (arrive receipt.now.published) (arrive self.new.window.window.seen) }
     {
         match self.window.learn(receipt) {
@@ -77,10 +77,10 @@ impl<'a, 'g, R: Wait, J: Naming> SitePort<'a, 'g, R, J> {
 }
 
 impl<'a, 'g, R: Wait, J: Naming> Port for SitePort<'a, 'g, R, J> {
-    ghost use Rattle.site_serve.specs.InForce.{ruling_gate};
+    ghost use Rattle.site_serve.specs.InForce.{followed_gate};
     ghost use Rattle.site_serve.specs.SitePorts.{SiteGives};
 
-    ghost gives = { λ old call reply new. SiteGives (ruling_gate old.ruling) old.window.window call reply new.window.window };
+    ghost gives = { λ old call reply new. SiteGives (followed_gate old.follower) old.window.window call reply new.window.window };
 
     fn intake(&mut self, _draft: Draft) -> Result<Stamp, PortFault> {
         Err(PortFault::Closed)
@@ -94,15 +94,15 @@ impl<'a, 'g, R: Wait, J: Naming> Port for SitePort<'a, 'g, R, J> {
     }
 
     fn report(&mut self) -> Result<Verdicts, PortFault> {
-        let watch = match brought_up(
-            self.ruling.in_force.gate(),
+        let watch = match up_to_date_watch(
+            self.follower.in_force.gate(),
             &mut self.window,
             self.kept.take(),
         ) {
             Ok(watch) => watch,
             Err(fault) => return Err(window_fault(fault)),
         };
-        let verdicts = copied(self.alloc, &watch);
+        let verdicts = verdicts_copy(self.alloc, &watch);
         self.kept = Some(watch);
         verdicts.map_err(|_| PortFault::NoMemory)
     }

@@ -13,10 +13,8 @@ ghost use Rattle.site_serve.specs.Openings.{HasKept, HasShown};
 ghost use Rattle.site_serve.specs.Options.{RunsWith, idle_nanos};
 ghost use Rattle.site_shared.specs.Accounts.{is_used};
 
-use super::closed::{Closed, Left, served_of, unserved};
-use super::common::{Common, FirstGates, SiteOptions};
+use super::ended::{EndedSite, RunOutcome, failed_site, served_of};
 use super::errors::Errors;
-use super::evaluator::Printed;
 use super::event_loop::{EventLoop, LISTENERS, LoopParts, WAKE};
 use super::gossip::Peer;
 use super::group_commit::GroupCommit;
@@ -25,9 +23,11 @@ use super::metrics::Metrics;
 use super::news::News;
 use super::opening::{Opening, OwnLedger};
 use super::reloads::InForce;
-use super::setup::{PageSetup, ServeFault, Served, Setup, Turn};
+use super::reports::Printed;
+use super::setup::{PageSetup, ServeFault, Served, SessionHooks, Setup};
+use super::site_context::{FirstGates, SiteContext, SiteOptions};
 use super::thread_ends::{ThreadEnds, thread_ends_at};
-use super::threads::{Ended, PageAndPeers, ThreadInputs, run_threads};
+use super::threads::{EndedThreads, LoopInputs, PageAndPeers, ThreadInputs, run_threads};
 use byte_ends::Drain;
 use gate_rules::Gate;
 use mio::{Poll, Waker};
@@ -66,13 +66,13 @@ pub fn serve_run<R, W, E, T>(
     stop: &Stop,
     output: W,
     errors: E,
-    turn: &T,
+    hooks: &T,
 ) -> Result<Served, ServeFault>
 where
     R: Net<Listener = TcpListener, Stream = TcpStream> + Threads + Wait + Clock + Sync,
     W: Drain + Send + Drop,
     E: Drain + Send + Drop,
-    T: Turn + Sync,
+    T: SessionHooks + Sync,
     ensures used { list_any (is_used setup.entry.site setup.entry.start) setup.entry.replica ≡ true → IsErr result }
     ensures record { (more : List Operation)
         × IfOk result (λ served. served.replica ≡ all_arrived setup.entry.replica more) }
@@ -80,8 +80,8 @@ where
     let Ok(listeners) = one_listener(alloc, listener) else {
         return Err(ServeFault::NoMemory);
     };
-    let Closed { keeper: _, served } = serve_keeping(
-        rt, alloc, listeners, setup, stop, output, errors, turn, NoJournal,
+    let EndedSite { keeper: _, served } = serve_keeping(
+        rt, alloc, listeners, setup, stop, output, errors, hooks, NoJournal,
     );
     served
 }
@@ -110,14 +110,14 @@ pub fn serve_keeping<R, W, E, T, K>(
     stop: &Stop,
     output: W,
     errors: E,
-    turn: &T,
+    hooks: &T,
     keeper: K,
-) -> Closed<K>
+) -> EndedSite<K>
 where
     R: Net<Listener = TcpListener, Stream = TcpStream> + Threads + Wait + Clock + Sync,
     W: Drain + Send + Drop,
     E: Drain + Send + Drop,
-    T: Turn + Sync,
+    T: SessionHooks + Sync,
     K: Keeps,
     requires { (first : List Operation) × K.holds keeper first }
     ensures used { list_any (is_used setup.entry.site setup.entry.start) setup.entry.replica ≡ true
@@ -127,9 +127,9 @@ where
     // with just `more`.
     ensures keeps { HasKept K.survives (K.holds keeper) setup.entry.replica result.keeper result.served }
 {
-    match begin(rt, alloc, listeners, setup, stop, errors, turn) {
-        Ok(begun) => run_begun(rt, begun, output, keeper),
-        Err(fault) => unserved(keeper, fault),
+    match prepare(rt, alloc, listeners, setup, stop, errors, hooks) {
+        Ok(prepared) => run_prepared(rt, prepared, output, keeper),
+        Err(fault) => failed_site(keeper, fault),
     }
 }
 
@@ -145,7 +145,7 @@ struct Limits {
 
 /// What a site is run with beside its gate, by who needs it.
 #[derive(Drop)]
-struct Parts<'a> {
+struct SetupParts<'a> {
     replica: Replica,
     page: Option<PageSetup>,
     options: SiteOptions<'a>,
@@ -153,7 +153,7 @@ struct Parts<'a> {
 }
 
 /// The gate of a setup, and its other parts.
-fn parts_of<'a>(setup: Setup<'a>) -> (Gate, Parts<'a>)
+fn split_setup<'a>(setup: Setup<'a>) -> (Gate, SetupParts<'a>)
     ensures opens { (result.1.replica ≡ setup.entry.replica) × (result.1.options.guard.own ≡ setup.entry.site)
         × (result.1.options.start ≡ setup.entry.start) }
     ensures options { RunsWith setup.entry result.1.options }
@@ -198,7 +198,7 @@ fn parts_of<'a>(setup: Setup<'a>) -> (Gate, Parts<'a>)
         pause: Duration::from_millis(pause_ms),
         patience: patience_of(idle_ms),
     };
-    let parts = Parts {
+    let parts = SetupParts {
         replica,
         page,
         options,
@@ -209,70 +209,70 @@ fn parts_of<'a>(setup: Setup<'a>) -> (Gate, Parts<'a>)
 
 /// A site that is ready to be opened, with its record.
 #[derive(Drop)]
-struct Begun<'a, E: Drain, T: Turn> {
-    common: Common<'a, E, T>,
+struct PreparedSite<'a, E: Drain, T: SessionHooks> {
+    context: SiteContext<'a, E, T>,
     loop_setup: LoopSetup,
     replica: Replica,
 }
 
 /// Makes what a site is opened with. Refusals: `NoPlace`, the system refused a poll or a listener; `NoMemory`.
-fn begin<'a, R, E, T>(
+fn prepare<'a, R, E, T>(
     rt: &R,
     alloc: Global,
     listeners: Vec<Listener>,
     setup: Setup<'a>,
     stop: &'a Stop,
     errors: E,
-    turn: &'a T,
-) -> Result<Begun<'a, E, T>, ServeFault>
+    hooks: &'a T,
+) -> Result<PreparedSite<'a, E, T>, ServeFault>
 where
     R: Net + Clock,
     E: Drain + Drop,
-    T: Turn,
-    ensures opens { IfOk result (λ begun. (begun.replica ≡ setup.entry.replica)
-        × (begun.common.options.guard.own ≡ setup.entry.site) × (begun.common.options.start ≡ setup.entry.start)) }
-    ensures options { IfOk result (λ begun. RunsWith setup.entry begun.common.options) }
-    ensures others { IfOk result (λ begun. (gate_in begun.common.first ≡ setup.entry.gate)
-        × (begun.loop_setup.page_and_peers.page ≡ setup.entry.page)
-        × (begun.loop_setup.loop_parts.most ≡ setup.entry.sessions)) }
-    ensures windows { IfOk result (λ begun. begun.loop_setup.limits.workers + 2 + begun.loop_setup.limits.pullers ≤ 64) }
+    T: SessionHooks,
+    ensures opens { IfOk result (λ prepared. (prepared.replica ≡ setup.entry.replica)
+        × (prepared.context.options.guard.own ≡ setup.entry.site) × (prepared.context.options.start ≡ setup.entry.start)) }
+    ensures options { IfOk result (λ prepared. RunsWith setup.entry prepared.context.options) }
+    ensures others { IfOk result (λ prepared. (gate_in prepared.context.first ≡ setup.entry.gate)
+        × (prepared.loop_setup.page_and_peers.page ≡ setup.entry.page)
+        × (prepared.loop_setup.loop_parts.most ≡ setup.entry.sessions)) }
+    ensures windows { IfOk result (λ prepared. prepared.loop_setup.limits.workers + 2 + prepared.loop_setup.limits.pullers ≤ 64) }
 {
-    let (gate, parts) = parts_of(setup);
+    let (gate, parts) = split_setup(setup);
     let (peers, pullers) = (parts.options.peers.len(), parts.limits.pullers);
-    match make(rt, alloc, listeners, gate, peers, pullers) {
-        Ok(made) => Ok(begun_with(alloc, made, parts, stop, errors, turn)),
+    match acquire(rt, alloc, listeners, gate, peers, pullers) {
+        Ok(resources) => Ok(prepared_with(alloc, resources, parts, stop, errors, hooks)),
         Err(fault) => Err(fault),
     }
 }
 
 /// What a site is opened with, of these parts.
-fn begun_with<'a, E: Drain, T: Turn>(
+fn prepared_with<'a, E: Drain, T: SessionHooks>(
     alloc: Global,
-    made: Made,
-    parts: Parts<'a>,
+    resources: Resources,
+    parts: SetupParts<'a>,
     stop: &'a Stop,
     errors: E,
-    turn: &'a T,
-) -> Begun<'a, E, T>
+    hooks: &'a T,
+) -> PreparedSite<'a, E, T>
     ensures opens { (result.replica ≡ parts.entry.replica)
-        × (result.common.options.guard.own ≡ parts.entry.options.guard.own)
-        × (result.common.options.start ≡ parts.entry.options.start) }
-    ensures options { (result.common.options ≡ parts.entry.options) × (result.common.first ≡ made.first) }
+        × (result.context.options.guard.own ≡ parts.entry.options.guard.own)
+        × (result.context.options.start ≡ parts.entry.options.start) }
+    ensures options { (result.context.options ≡ parts.entry.options) × (result.context.first ≡ resources.first) }
     ensures limits { result.loop_setup.limits ≡ parts.entry.limits }
     ensures looped { (result.loop_setup.page_and_peers.page ≡ parts.entry.page)
-        × (result.loop_setup.page_and_peers.shares ≡ made.shares)
+        × (result.loop_setup.page_and_peers.shares ≡ resources.shares)
         × (result.loop_setup.loop_parts.most ≡ parts.entry.limits.sessions)
         × (result.loop_setup.loop_parts.connections ≡ parts.entry.limits.connections)
         × (result.loop_setup.loop_parts.patience ≡ parts.entry.options.patience) }
 {
-    let Made {
+    let Resources {
         poll,
         listeners,
         shares,
         metrics,
         first,
-    } = made;
-    let Parts {
+    } = resources;
+    let SetupParts {
         replica,
         page,
         options,
@@ -286,15 +286,15 @@ fn begun_with<'a, E: Drain, T: Turn>(
         most: limits.sessions,
         connections: limits.connections,
     };
-    Begun {
-        common: Common {
+    PreparedSite {
+        context: SiteContext {
             alloc,
             options,
             first,
             errors: Errors::new(errors),
             metrics,
             stop,
-            turn,
+            hooks,
             is_start_taken: AtomicBool::new(false),
         },
         loop_setup: LoopSetup {
@@ -308,7 +308,7 @@ fn begun_with<'a, E: Drain, T: Turn>(
 
 /// The parts of a site that are made before it is opened, which may be refused.
 #[derive(Drop)]
-struct Made {
+struct Resources {
     poll: Poll,
     listeners: Listeners,
     shares: Vec<Vec<Peer>>,
@@ -317,21 +317,21 @@ struct Made {
 }
 
 /// What is made for a site that listens there, with this gate, so many peers and so many threads that pull from them.
-fn make<R: Net + Clock>(
+fn acquire<R: Net + Clock>(
     rt: &R,
     alloc: Global,
     listeners: Vec<Listener>,
     gate: Gate,
     peers: usize,
     pullers: usize,
-) -> Result<Made, ServeFault>
-    ensures { IfOk result (λ made. gate_in made.first ≡ gate) }
+) -> Result<Resources, ServeFault>
+    ensures { IfOk result (λ resources. gate_in resources.first ≡ gate) }
 {
-    let Ok((poll, listeners)) = polled(rt, alloc, listeners) else {
+    let Ok((poll, listeners)) = poll_listeners(rt, alloc, listeners) else {
         return Err(ServeFault::NoPlace);
     };
-    match noted(rt, alloc, gate, peers, pullers) {
-        Ok((shares, metrics, first)) => Ok(Made {
+    match shared_parts(rt, alloc, gate, peers, pullers) {
+        Ok((shares, metrics, first)) => Ok(Resources {
             poll,
             listeners,
             shares,
@@ -343,14 +343,14 @@ fn make<R: Net + Clock>(
 }
 
 /// The shares of the peers, what is noted of them, and the gate in force.
-fn noted<R: Clock>(
+fn shared_parts<R: Clock>(
     rt: &R,
     alloc: Global,
     gate: Gate,
     peers: usize,
     pullers: usize,
 ) -> Result<(Vec<Vec<Peer>>, Metrics, InForce), AllocError>
-    ensures { IfOk result (λ noted. gate_in noted.2 ≡ gate) }
+    ensures { IfOk result (λ parts. gate_in parts.2 ≡ gate) }
 {
     let first = InForce::first(alloc, gate)?;
     let metrics = Metrics::new(rt, alloc, peers)?;
@@ -359,31 +359,36 @@ fn noted<R: Clock>(
 }
 
 /// Opens a site that is ready, and runs it.
-fn run_begun<R, W, E, T, K>(rt: &R, begun: Begun<'_, E, T>, output: W, keeper: K) -> Closed<K>
+fn run_prepared<R, W, E, T, K>(
+    rt: &R,
+    prepared: PreparedSite<'_, E, T>,
+    output: W,
+    keeper: K,
+) -> EndedSite<K>
 where
     R: Net<Listener = TcpListener, Stream = TcpStream> + Threads + Wait + Clock + Sync,
     W: Drain + Send + Drop,
     E: Drain + Send + Drop,
-    T: Turn + Sync,
+    T: SessionHooks + Sync,
     K: Keeps,
     requires keeper { (first : List Operation) × K.holds keeper first }
-    requires windows { begun.loop_setup.limits.workers + 2 + begun.loop_setup.limits.pullers ≤ 64 }
-    ensures used { list_any (is_used begun.entry.common.options.guard.own begun.entry.common.options.start) begun.entry.replica ≡ true
+    requires windows { prepared.loop_setup.limits.workers + 2 + prepared.loop_setup.limits.pullers ≤ 64 }
+    ensures used { list_any (is_used prepared.entry.context.options.guard.own prepared.entry.context.options.start) prepared.entry.replica ≡ true
         → IsErr result.served }
-    ensures keeps { HasKept K.survives (K.holds keeper) begun.entry.replica result.keeper result.served }
+    ensures keeps { HasKept K.survives (K.holds keeper) prepared.entry.replica result.keeper result.served }
 {
-    let Begun {
-        common,
+    let PreparedSite {
+        context,
         loop_setup,
         replica,
-    } = begun;
+    } = prepared;
     let windows = loop_setup.limits.workers + 2 + loop_setup.limits.pullers;
-    let (site, start) = (common.options.guard.own, common.options.start);
+    let (site, start) = (context.options.guard.own, context.options.start);
     match open_site(rt, site, start, windows, replica) {
         Ok((desk, windows)) => run_opened::<Brand, R, W, E, T, K>(
-            rt, &common, loop_setup, desk, windows, output, keeper,
+            rt, &context, loop_setup, desk, windows, output, keeper,
         ),
-        Err(fault) => unserved(keeper, open_fault(fault)),
+        Err(fault) => failed_site(keeper, open_fault(fault)),
     }
 }
 
@@ -427,7 +432,7 @@ struct LoopSetup {
 }
 
 /// A poll, and the listeners that it reports.
-fn polled<R: Net>(
+fn poll_listeners<R: Net>(
     rt: &R,
     alloc: Global,
     listeners: Vec<Listener>,
@@ -466,19 +471,19 @@ fn open_fault(fault: OpenFault) -> ServeFault
 /// Runs a site that was opened, and ends its desk.
 fn run_opened<J, R, W, E, T, K>(
     rt: &R,
-    common: &Common<'_, E, T>,
+    context: &SiteContext<'_, E, T>,
     loop_setup: LoopSetup,
     desk: Desk,
     windows: Vec<Window>,
     output: W,
     keeper: K,
-) -> Closed<K>
+) -> EndedSite<K>
 where
     J: Opening + Send + Sync,
     R: Net<Listener = TcpListener, Stream = TcpStream> + Threads + Wait + Clock + Sync,
     W: Drain + Send + Drop,
     E: Drain + Send + Drop,
-    T: Turn + Sync,
+    T: SessionHooks + Sync,
     K: Keeps,
     requires desk { desk.book ≡ J.book }
     requires opened { desk.published ≡ J.journal ∷ [] }
@@ -488,47 +493,50 @@ where
     ensures { HasKept K.survives J.had J.journal result.keeper result.served }
 {
     let ledger: OwnLedger<J, K> = OwnLedger::new(Ledger::new(desk, keeper));
-    match GroupCommit::new(common.alloc, ledger) {
+    match GroupCommit::new(context.alloc, ledger) {
         Ok(mut group) => {
-            let left = run_group(rt, common, loop_setup, windows, &mut group, output);
-            closed::<J, K>(left, group.end(rt))
+            let outcome = run_group(rt, context, loop_setup, windows, &mut group, output);
+            end_site::<J, K>(outcome, group.end(rt))
         }
-        Err(ledger) => closed::<J, K>(Err(ServeFault::NoMemory), ledger.end(rt)),
+        Err(ledger) => end_site::<J, K>(Err(ServeFault::NoMemory), ledger.end(rt)),
     }
 }
 
 /// How a site ends of which this is left, and what remains of its ledger.
-fn closed<J: Opening, K: Keeps>(left: Result<Left, ServeFault>, remains: Remains<K>) -> Closed<K>
+fn end_site<J: Opening, K: Keeps>(
+    outcome: Result<RunOutcome, ServeFault>,
+    remains: Remains<K>,
+) -> EndedSite<K>
     requires { HasShown K.survives J.had J.journal remains.keeper (arc_value remains.shown) }
     ensures { HasKept K.survives J.had J.journal result.keeper result.served }
 {
     let Remains { keeper, shown } = remains;
-    Closed {
+    EndedSite {
         keeper,
-        served: served_of(left, shown),
+        served: served_of(outcome, shown),
     }
 }
 
 /// Runs a site that can hold what it is asked.
 fn run_group<J, R, W, E, T, K>(
     rt: &R,
-    common: &Common<'_, E, T>,
+    context: &SiteContext<'_, E, T>,
     loop_setup: LoopSetup,
     windows: Vec<Window>,
     group: &mut GroupCommit<J, K>,
     output: W,
-) -> Result<Left, ServeFault>
+) -> Result<RunOutcome, ServeFault>
 where
     J: Opening + Send + Sync,
     R: Net<Listener = TcpListener, Stream = TcpStream> + Threads + Wait + Clock + Sync,
     W: Drain + Send + Drop,
     E: Drain + Send + Drop,
-    T: Turn + Sync,
+    T: SessionHooks + Sync,
     K: Keeps,
     requires { All (λ window. window.book ≡ J.book) windows.items }
 {
-    match run_parts_of(common, loop_setup, windows) {
-        Ok(run_parts) => run_with_parts(rt, common, run_parts, group, output),
+    match run_parts_of(context, loop_setup, windows) {
+        Ok(run_parts) => run_with_parts(rt, context, run_parts, group, output),
         Err(fault) => Err(fault),
     }
 }
@@ -544,15 +552,15 @@ struct RunParts<J: Naming> {
 
 /// What the threads of a site run with. Refusals: `NoPlace`, there are fewer windows than threads, or the system
 /// refused what wakes the loop; `NoMemory`.
-fn run_parts_of<E: Drain, T: Turn, J: Naming>(
-    common: &Common<'_, E, T>,
+fn run_parts_of<E: Drain, T: SessionHooks, J: Naming>(
+    context: &SiteContext<'_, E, T>,
     loop_setup: LoopSetup,
     windows: Vec<Window>,
 ) -> Result<RunParts<J>, ServeFault>
     requires { All (λ window. window.book ≡ J.book) windows.items }
 {
-    let thread_ends = thread_ends_of(common.alloc, windows, &loop_setup.limits)?;
-    let Ok((news, first_gates)) = news_of(common, loop_setup.limits.workers) else {
+    let thread_ends = thread_ends_of(context.alloc, windows, &loop_setup.limits)?;
+    let Ok((news, first_gates)) = news_of(context, loop_setup.limits.workers) else {
         return Err(ServeFault::NoMemory);
     };
     match ready_loop_of(loop_setup) {
@@ -582,12 +590,12 @@ fn thread_ends_of<J: Naming>(
 }
 
 /// What brings news to the threads, and the gates that they judge under at first.
-fn news_of<E: Drain, T: Turn, J: Naming>(
-    common: &Common<'_, E, T>,
+fn news_of<E: Drain, T: SessionHooks, J: Naming>(
+    context: &SiteContext<'_, E, T>,
     workers: usize,
 ) -> Result<(News<J>, FirstGates), AllocError> {
-    let reloads = Arc::try_clone(&common.options.reloads)?;
-    let first_gates = FirstGates::new(common.alloc, &common.first, workers)?;
+    let reloads = Arc::try_clone(&context.options.reloads)?;
+    let first_gates = FirstGates::new(context.alloc, &context.first, workers)?;
     Ok((News::new(reloads), first_gates))
 }
 
@@ -627,17 +635,17 @@ fn with_waker(loop_setup: LoopSetup, waker: Waker) -> Result<ReadyLoop, ServeFau
 /// Runs the threads of a site, and its event loop.
 fn run_with_parts<J, R, W, E, T, K>(
     rt: &R,
-    common: &Common<'_, E, T>,
+    context: &SiteContext<'_, E, T>,
     run_parts: RunParts<J>,
     group: &mut GroupCommit<J, K>,
     output: W,
-) -> Result<Left, ServeFault>
+) -> Result<RunOutcome, ServeFault>
 where
     J: Opening + Send + Sync,
     R: Net<Listener = TcpListener, Stream = TcpStream> + Threads + Wait + Clock + Sync,
     W: Drain + Send + Drop,
     E: Drain + Send + Drop,
-    T: Turn + Sync,
+    T: SessionHooks + Sync,
     K: Keeps,
 {
     let RunParts {
@@ -667,18 +675,22 @@ where
         page_and_peers,
         first_gates,
     };
-    let ended = run_threads(rt, common, &news, &waker, inputs, group, event_loop, ends);
-    left_of(ended, common.is_start_taken.load(Ordering::SeqCst))
+    let loop_inputs = LoopInputs { event_loop, ends };
+    let ended = run_threads(rt, context, &news, &waker, inputs, loop_inputs, group);
+    outcome_of(ended, context.is_start_taken.load(Ordering::SeqCst))
 }
 
 /// How the threads of a site left it, where the last publish showed all that it took in, also what could only be held.
-fn left_of<J: Naming>(ended: Ended<J>, is_start_taken: bool) -> Result<Left, ServeFault>
-    ensures left { IfOk result (λ left. (left.is_start_taken ≡ is_start_taken)
-        × IsSomeAnd ended.printed (λ printed. left.written ≡ printed.written)) }
+fn outcome_of<J: Naming>(
+    ended: EndedThreads<J>,
+    is_start_taken: bool,
+) -> Result<RunOutcome, ServeFault>
+    ensures outcome { IfOk result (λ outcome. (outcome.is_start_taken ≡ is_start_taken)
+        × IsSomeAnd ended.printed (λ printed. outcome.written ≡ printed.written)) }
     ensures kept { IsErr ended.flushed → result ≡ Err ServeFault.NoJournal }
     ensures refused { ended.is_refused ≡ true → IsErr result }
 {
-    let Ended {
+    let EndedThreads {
         flushed,
         printed,
         is_refused,
@@ -699,7 +711,7 @@ fn left_of<J: Naming>(ended: Ended<J>, is_start_taken: bool) -> Result<Left, Ser
     if flushed.is_err() {
         return Err(ServeFault::NoMemory);
     }
-    Ok(Left {
+    Ok(RunOutcome {
         written,
         is_start_taken,
     })

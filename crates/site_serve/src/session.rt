@@ -9,7 +9,7 @@ ghost use Rattle.gossip_line.specs.Steps.{answer_of};
 ghost use Rattle.gossip_line.specs.Texts.{answer_text, long_line, next_of, refusal_line, reply_text, stamp_line};
 ghost use Rattle.gossip_line.specs.declared.fault.LineFault.{LineFault};
 ghost use Rattle.site_port.specs.Ports.{reply_by, stamped};
-ghost use Rattle.site_serve.specs.Answered.{HasRole, IsKeptOut, IsLetIn, IsSealedBy, SaysFault, SaysStamp, TakesText, ending_after};
+ghost use Rattle.site_serve.specs.Answered.{HasRole, IsAdmitted, IsRejected, IsSealedBy, SaysFault, SaysStamp, TakesText, ending_after};
 ghost use Rattle.site_serve.specs.Channels.{IsSent, ReadsOn, outgoing_of};
 ghost use Rattle.site_serve.specs.LookedAtKeys.{due_key, key_by};
 ghost use Rattle.site_serve.specs.Outboxes.{Adds, AddsEach};
@@ -19,7 +19,7 @@ ghost use Rattle.site_serve.specs.declared.channel.ChannelMode.TheVariants.{Lock
 ghost use Rattle.site_serve.specs.declared.session_fault.SessionFault.TheVariants.{Line};
 
 use super::ask::{Answer, Done};
-use super::channel::{Channel, Credential};
+use super::channel::{Channel, ChannelMode, Credential};
 use super::inbox::Inbox;
 use super::outbox::Outbox;
 use super::port::desk_fault;
@@ -36,7 +36,6 @@ use site_port::PortFault;
 use site_shared::{BrandedReceipt, Naming};
 use std::alloc::{AllocError, Global};
 use std::io::{ErrorKind, Read, Write};
-use std::mem;
 use std::net::Shutdown;
 use std::sync::Arc;
 use std::time::Duration;
@@ -64,6 +63,17 @@ pub(super) struct Connection {
     pub is_locked: bool,
 }
 
+/// Whether the next line of a session may be handled.
+#[derive(Clone, Copy, PartialEq)]
+enum Flow {
+    /// It may.
+    Open,
+    /// A worker has a task of the session.
+    AtWorker,
+    /// It asks for a look, which waits until other sessions have read their answers.
+    Throttled,
+}
+
 /// A session: its connection, what was read and not yet answered, and what was answered and not yet written.
 #[derive(Drop)]
 pub(super) struct Session<J: Naming> {
@@ -89,10 +99,7 @@ pub(super) struct Session<J: Naming> {
     waiting: usize,
     /// Whether it has had a body taken in, or refused: then it may be silent for longer.
     has_taken: bool,
-    /// Whether a worker has a task of it.
-    is_away: bool,
-    /// Whether a look of it waits until others have read their answers.
-    is_held_back: bool,
+    flow: Flow,
     /// Whether it is among those that are looked at in the next turn.
     pub is_listed: bool,
     /// Whether the connection may have more to read.
@@ -127,7 +134,7 @@ impl<J: Naming> Session<J> {
         Session {
             number,
             stream,
-            channel: Channel::new(alloc, is_locked),
+            channel: Channel::new(alloc, first_mode(is_locked)),
             may_take: !is_locked,
             key: None,
             key_seen: now,
@@ -137,8 +144,7 @@ impl<J: Naming> Session<J> {
             receipt: None,
             waiting: 0,
             has_taken: false,
-            is_away: true,
-            is_held_back: false,
+            flow: Flow::AtWorker,
             is_listed: false,
             may_read: true,
             is_closing: false,
@@ -153,16 +159,13 @@ impl<J: Naming> Session<J> {
 
     /// Whether another line of it may be answered now.
     pub(super) fn is_open(&self) -> bool {
-        self.ending.is_none()
-            && !self.is_away
-            && !self.is_held_back
-            && self.outbox.len() <= WAITING_BYTES
+        self.ending.is_none() && self.flow == Flow::Open && self.outbox.len() <= WAITING_BYTES
     }
 
     /// Whether nothing of it is left to do.
     pub(super) fn is_over(&self) -> bool {
         self.ending.is_some()
-            && !self.is_away
+            && self.flow != Flow::AtWorker
             && self.waiting == 0
             && self.outbox.len() == 0
             && self.channel.is_sent()
@@ -176,7 +179,7 @@ impl<J: Naming> Session<J> {
     }
 
     /// Whether it has had as many lines as a session may have.
-    pub(super) fn is_spent(&self) -> bool {
+    pub(super) fn has_used_up_lines(&self) -> bool {
         self.lines >= LINES
     }
 
@@ -189,7 +192,7 @@ impl<J: Naming> Session<J> {
         ensures access { IsSameAccess self.old self.new }
     {
         let said = self.outbox.say(alloc, saying);
-        self.go_on(said);
+        self.continue_or_end(said);
     }
 
     /// Answers that a line is too long, and ends.
@@ -201,7 +204,7 @@ impl<J: Naming> Session<J> {
         ensures access { IsSameAccess self.old self.new }
     {
         let said = self.outbox.say_too_long(alloc);
-        self.go_on(said.map(|()| true));
+        self.continue_or_end(said.map(|()| true));
     }
 
     /// Answers a line whose body was taken in, or refused.
@@ -214,7 +217,7 @@ impl<J: Naming> Session<J> {
         ensures access { IsSameAccess self.old self.new }
     {
         let said = self.outbox.say_taken(alloc, taken);
-        self.go_on(said);
+        self.continue_or_end(said);
     }
 
     /// Takes the desk's answer to a `take`. From then on the session has seen that publish.
@@ -267,47 +270,51 @@ impl<J: Naming> Session<J> {
         ensures waits { self.new.waiting ≡ self.old.waiting }
         ensures access { IsSameAccess self.old self.new }
     {
-        self.is_away = false;
+        self.flow = Flow::Open;
         match self.outbox.add(text) {
-            Ok(()) => self.go_on(answered),
+            Ok(()) => self.continue_or_end(answered),
             Err(_) => self.end(Err(LineFault::NoMemory)),
         }
     }
 
     /// Goes on, since its worker is done.
-    pub(super) fn come_back(&mut self)
+    pub(super) fn resume(&mut self)
         ensures inbox { self.new.inbox ≡ self.old.inbox }
         ensures kept { (self.new.outbox ≡ self.old.outbox) × (self.new.waiting ≡ self.old.waiting) }
         ensures access { IsSameAccess self.old self.new }
     {
-        self.is_away = false;
+        self.flow = Flow::Open;
     }
 
     /// Waits for a worker.
-    pub(super) fn go_away(&mut self)
+    pub(super) fn await_worker(&mut self)
         ensures inbox { self.new.inbox ≡ self.old.inbox }
         ensures kept { (self.new.outbox ≡ self.old.outbox) × (self.new.waiting ≡ self.old.waiting) }
         ensures access { IsSameAccess self.old self.new }
     {
-        self.is_away = true;
+        self.flow = Flow::AtWorker;
     }
 
     /// Waits until others have read their answers.
-    pub(super) fn hold_back(&mut self)
+    pub(super) fn throttle(&mut self)
         ensures inbox { self.new.inbox ≡ self.old.inbox }
         ensures kept { (self.new.outbox ≡ self.old.outbox) × (self.new.waiting ≡ self.old.waiting) }
         ensures access { IsSameAccess self.old self.new }
     {
-        self.is_held_back = true;
+        self.flow = Flow::Throttled;
     }
 
     /// Ends the wait for others to read their answers. Returns whether it waited.
-    pub(super) fn let_go(&mut self) -> bool
+    pub(super) fn unthrottle(&mut self) -> bool
         ensures inbox { self.new.inbox ≡ self.old.inbox }
         ensures kept { (self.new.outbox ≡ self.old.outbox) × (self.new.waiting ≡ self.old.waiting) }
         ensures access { IsSameAccess self.old self.new }
     {
-        mem::replace(&mut self.is_held_back, false)
+        if self.flow != Flow::Throttled {
+            return false;
+        }
+        self.flow = Flow::Open;
+        true
     }
 
     /// Waits for the next publish.
@@ -349,18 +356,18 @@ impl<J: Naming> Session<J> {
     }
 
     /// Skips a line of this size, which was handled.
-    pub(super) fn pass(&mut self, size: usize)
+    pub(super) fn skip_line(&mut self, size: usize)
         requires { size < length self.old.inbox }
         ensures inbox { self.new.inbox ≡ drop (size + 1) self.old.inbox }
         ensures kept { (self.new.outbox ≡ self.old.outbox) × (self.new.waiting ≡ self.old.waiting) }
         ensures had { HasHadLine self.old self.new }
     {
-        self.inbox.pass(size);
+        self.inbox.skip_line(size);
         self.lines = self.lines.saturating_add(1);
     }
 
     /// Ends, since it has had all its lines.
-    pub(super) fn end_spent(&mut self)
+    pub(super) fn end_used_up(&mut self)
         ensures inbox { self.new.inbox ≡ self.old.inbox }
         ensures kept { (self.new.outbox ≡ self.old.outbox) × (self.new.waiting ≡ self.old.waiting) }
         ensures access { IsSameAccess self.old self.new }
@@ -379,14 +386,14 @@ impl<J: Naming> Session<J> {
         ensures ends { is_some self.new.ending ≡ true }
     {
         match ending {
-            Ok(()) => self.end_as(Ok(())),
-            Err(fault) => self.end_as(Err(SessionFault::Line(fault))),
+            Ok(()) => self.end_with(Ok(())),
+            Err(fault) => self.end_with(Err(SessionFault::Line(fault))),
         }
     }
 
     /// Ends so once all that waits is written, unless it was to end before.
     #[tactic(auto, using(crate::proofs::Rights::ends_so))]
-    fn end_as(&mut self, ending: Result<(), SessionFault>)
+    fn end_with(&mut self, ending: Result<(), SessionFault>)
         ensures inbox { self.new.inbox ≡ self.old.inbox }
         ensures receipt { self.new.receipt ≡ self.old.receipt }
         ensures kept { (self.new.outbox ≡ self.old.outbox) × (self.new.waiting ≡ self.old.waiting) }
@@ -398,7 +405,7 @@ impl<J: Naming> Session<J> {
     }
 
     /// Notes whether the session goes on after an answer.
-    fn go_on(&mut self, answered: Result<bool, LineFault>)
+    fn continue_or_end(&mut self, answered: Result<bool, LineFault>)
         ensures inbox { self.new.inbox ≡ self.old.inbox }
         ensures receipt { self.new.receipt ≡ self.old.receipt }
         ensures kept { (self.new.outbox ≡ self.old.outbox) × (self.new.waiting ≡ self.old.waiting) }
@@ -454,11 +461,11 @@ impl<J: Naming> Session<J> {
         ensures came { ReadsOn self.old.channel.mode self.old.inbox self.new.channel.mode self.new.inbox }
     {
         let taken = self.channel.take(came, &mut self.inbox);
-        self.note(came, now);
+        self.note_bytes(came, now);
         match taken {
             Ok(()) => true,
             Err(fault) => {
-                self.end_as(Err(fault));
+                self.end_with(Err(fault));
                 false
             }
         }
@@ -479,7 +486,7 @@ impl<J: Naming> Session<J> {
     }
 
     /// Notes what came: the wait for a line begins anew where one has ended or begun.
-    fn note(&mut self, came: &[u8], now: Duration)
+    fn note_bytes(&mut self, came: &[u8], now: Duration)
         ensures inbox { self.new.inbox ≡ self.old.inbox }
         ensures kept { (self.new.outbox ≡ self.old.outbox) × (self.new.waiting ≡ self.old.waiting) }
         ensures access { IsSameAccess self.old self.new }
@@ -565,7 +572,7 @@ impl<J: Naming> Session<J> {
         }
         match self.channel.seal(&mut self.outbox) {
             Ok(()) => {}
-            Err(fault) => self.fail_as(fault),
+            Err(fault) => self.fail_with(fault),
         }
     }
 
@@ -589,18 +596,18 @@ impl<J: Naming> Session<J> {
         ensures waits { self.new.waiting ≡ self.old.waiting }
         ensures right { IsSameRight self.old self.new }
     {
-        self.fail_as(SessionFault::Line(fault));
+        self.fail_with(SessionFault::Line(fault));
     }
 
     /// Ends with a fault, and nothing more is written.
-    fn fail_as(&mut self, fault: SessionFault)
+    fn fail_with(&mut self, fault: SessionFault)
         ensures none { (self.new.outbox ≡ []) × (self.new.channel.mode ≡ Shut) }
         ensures ends { is_some self.new.ending ≡ true }
         ensures inbox { self.new.inbox ≡ self.old.inbox }
         ensures waits { self.new.waiting ≡ self.old.waiting }
         ensures right { IsSameRight self.old self.new }
     {
-        self.end_as(Err(fault));
+        self.end_with(Err(fault));
         self.outbox.clear();
         self.channel.shut();
     }
@@ -616,7 +623,7 @@ impl<J: Naming> Session<J> {
             self.fail_if_stuck(patience, now);
             return;
         }
-        if self.is_away || self.is_held_back || self.waiting > 0 || self.ending.is_some() {
+        if self.flow != Flow::Open || self.waiting > 0 || self.ending.is_some() {
             return;
         }
         let times = if self.has_taken { FED } else { 1 };
@@ -657,14 +664,14 @@ impl<J: Naming> Session<J> {
     }
 
     /// Waits for a worker to check this credential.
-    pub(super) fn ask_by(&mut self, credential: Credential)
+    pub(super) fn await_check(&mut self, credential: Credential)
         ensures inbox { self.new.inbox ≡ self.old.inbox }
         ensures kept { (self.new.outbox ≡ self.old.outbox) × (self.new.waiting ≡ self.old.waiting) }
         ensures key { self.new.key ≡ key_by credential self.old.key }
         ensures access { IsSameAccess (record self.old { key = self.new.key }) self.new }
     {
         self.key = key_by(credential, self.key);
-        self.go_away();
+        self.await_worker();
     }
 
     /// The session's key, if it is due to be checked before the next line: a second after the last check.
@@ -689,7 +696,7 @@ impl<J: Naming> Session<J> {
         ensures waits { self.new.waiting ≡ self.old.waiting }
     {
         self.end_without(role);
-        self.is_away = false;
+        self.flow = Flow::Open;
         self.key_seen = now;
         self.may_take = matches!(role, Some(Role::Feed));
     }
@@ -702,23 +709,23 @@ impl<J: Naming> Session<J> {
         ensures ends { role ≡ None → is_some self.new.ending ≡ true }
     {
         if role.is_none() {
-            self.end_as(Err(SessionFault::NoKey));
+            self.end_with(Err(SessionFault::NoKey));
         }
     }
 
     /// The connection is admitted by its key: from now on its lines are sealed, and the time-out of a first line begins
     /// again.
-    pub(super) fn let_in(&mut self, admitted: Admitted, now: Duration)
+    pub(super) fn admit(&mut self, admitted: Admitted, now: Duration)
         ensures role { IsTrue self.new.may_take ↔ admitted.role ≡ Feed }
         ensures kept { (self.new.outbox ≡ self.old.outbox) ⊎ (self.new.outbox ≡ []) }
         ensures seen { self.new.key_seen ≡ now }
-        ensures sealed { IsLetIn admitted.role admitted.wire self.old self.new }
+        ensures sealed { IsAdmitted admitted.role admitted.wire self.old self.new }
         ensures inbox { self.new.inbox ≡ self.old.inbox }
         ensures waits { self.new.waiting ≡ self.old.waiting }
     {
         let Admitted { role, answer, wire } = admitted;
         self.seal_by(answer, wire);
-        self.is_away = false;
+        self.flow = Flow::Open;
         self.may_take = role == Role::Feed;
         self.key_seen = now;
         self.since = now;
@@ -733,23 +740,23 @@ impl<J: Naming> Session<J> {
         ensures waits { self.new.waiting ≡ self.old.waiting }
         ensures right { IsSameRight self.old self.new }
     {
-        match self.channel.let_in(answer, wire) {
+        match self.channel.admit(answer, wire) {
             Ok(()) => {}
-            Err(fault) => self.fail_as(fault),
+            Err(fault) => self.fail_with(fault),
         }
     }
 
     /// The connection isn't admitted: sends the answer, and ends.
-    pub(super) fn keep_out(&mut self, answer: Vec<u8>)
+    pub(super) fn reject(&mut self, answer: Vec<u8>)
         ensures kept { (self.new.outbox ≡ self.old.outbox) ⊎ (self.new.outbox ≡ []) }
-        ensures out { IsKeptOut self.old self.new }
+        ensures out { IsRejected self.old self.new }
         ensures inbox { self.new.inbox ≡ self.old.inbox }
         ensures waits { self.new.waiting ≡ self.old.waiting }
     {
-        self.is_away = false;
-        match self.channel.keep_out(answer) {
-            Ok(()) => self.end_as(Err(SessionFault::NoKey)),
-            Err(_) => self.fail_as(SessionFault::NoKey),
+        self.flow = Flow::Open;
+        match self.channel.reject(answer) {
+            Ok(()) => self.end_with(Err(SessionFault::NoKey)),
+            Err(_) => self.fail_with(SessionFault::NoKey),
         }
     }
 
@@ -773,6 +780,17 @@ impl<J: Naming> Session<J> {
     /// Closes the connection.
     pub(super) fn close(&mut self) {
         let _closed = self.stream.shutdown(Shutdown::Both);
+    }
+}
+
+/// The mode of a new channel: locked until a key admits the connection, or plain.
+fn first_mode(is_locked: bool) -> ChannelMode
+    ensures { result ≡ (if is_locked then Locked else Plain) }
+{
+    if is_locked {
+        ChannelMode::Locked
+    } else {
+        ChannelMode::Plain
     }
 }
 

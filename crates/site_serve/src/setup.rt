@@ -129,10 +129,10 @@ impl ServeFault {
 
 /// What a site asks of its host: it is called before and after each session, by the worker that answers it, and reads
 /// the keys by which connections are sealed. Sessions are numbered from 1, as they are accepted.
-pub trait Turn: KeyReader {
+pub trait SessionHooks: KeyReader {
     /// The session is answered from now on.
-    fn enter(&self, session: u64);
+    fn before(&self, session: u64);
 
     /// The session has ended. Of one that the end of the site cut off it may not be said.
-    fn left(&self, session: u64);
+    fn after(&self, session: u64);
 }

@@ -6,21 +6,21 @@ ghost use Rattle.std.specs.Thread.{IsSend, IsSync};
 ghost use Rattle.site_port.specs.Guarding.{guard_in, sink_in};
 
 use super::ask::Puller;
-use super::common::{Common, FirstGates};
-use super::desk::Published;
-use super::evaluator::{Printed, print_reports};
 use super::event_loop::{EventLoop, Site, serve_sessions};
 use super::gossip::{Peer, Pulling, pull_from_peers};
 use super::group_commit::{GroupCommit, NotKept};
 use super::jobs::Worker;
-use super::looks::do_jobs;
 use super::news::News;
 use super::opening::{Opening, OwnWindow};
 use super::pages::{PageContext, show_pages};
 use super::port::PullPort;
 use super::reloads::InForce;
-use super::setup::{PageSetup, Turn};
+use super::reports::{Printed, ReportPrinter, print_reports};
+use super::requests::Published;
+use super::setup::{PageSetup, SessionHooks};
+use super::site_context::{FirstGates, SiteContext};
 use super::thread_ends::LoopEnds;
+use super::workers::{WorkerContext, do_jobs};
 use byte_ends::Drain;
 use mio::Waker;
 use page_server::PageEndpoint;
@@ -59,9 +59,17 @@ pub(super) struct ThreadInputs<J: Naming, W: Drop> {
     pub first_gates: FirstGates,
 }
 
+/// What the event loop begins with.
+#[derive(Drop)]
+pub(super) struct LoopInputs<J: Naming> {
+    pub event_loop: EventLoop,
+    /// Its ends of the channels to the other threads.
+    pub ends: LoopEnds<J>,
+}
+
 /// How the threads of a site ended.
 #[derive(Drop)]
-pub(super) struct Ended<J: Naming> {
+pub(super) struct EndedThreads<J: Naming> {
     /// The last publish; or that the journal failed.
     pub flushed: Result<Published<J>, NotKept>,
     /// What the printing of reports left; none where it never began.
@@ -73,37 +81,36 @@ pub(super) struct Ended<J: Naming> {
 /// Runs the threads of a site, and its loop in this one.
 pub(super) fn run_threads<J, R, W, E, T, K>(
     rt: &R,
-    common: &Common<'_, E, T>,
+    context: &SiteContext<'_, E, T>,
     news: &News<J>,
     waker: &Waker,
     inputs: ThreadInputs<J, W>,
+    loop_inputs: LoopInputs<J>,
     group: &mut GroupCommit<J, K>,
-    event_loop: EventLoop,
-    ends: LoopEnds<J>,
-) -> Ended<J>
+) -> EndedThreads<J>
 where
     J: Opening + Send + Sync,
     R: Net<Listener = TcpListener, Stream = TcpStream> + Threads + Wait + Clock + Sync,
     W: Drain + Send + Drop,
     E: Drain + Send + Drop,
-    T: Turn + Sync,
+    T: SessionHooks + Sync,
     K: Keeps,
 {
     thread::scope(
         thread::scope_env(),
         rt,
-        move |scope| -> Ended<J>
+        move |scope| -> EndedThreads<J>
             requires { IsSync R.row × IsSend J.row × IsSync J.row × IsSend W.row × IsSend E.row × IsSync T.row }
         {
-            let begun = begin_all(scope, rt, common, news, waker, inputs);
-            run_loop(rt, common, news, begun, group, event_loop, ends)
+            let started = start_all(scope, rt, context, news, waker, inputs);
+            run_loop(rt, context, news, started, loop_inputs, group)
         },
     )
 }
 
 /// The threads that were begun beside the loop.
 #[derive(Drop)]
-struct Begun {
+struct StartedThreads {
     /// That which prints the reports.
     reports: Option<JoinHandle<Printed>>,
     /// Wakes the thread that serves browsers.
@@ -113,20 +120,20 @@ struct Begun {
 }
 
 /// Begins the threads beside the loop.
-fn begin_all<'s, 'e, J, R, W, E, T>(
+fn start_all<'s, 'e, J, R, W, E, T>(
     scope: &Scope<'s, &'e ()>,
     rt: &'s R,
-    common: &'s Common<'_, E, T>,
+    context: &'s SiteContext<'_, E, T>,
     news: &'s News<J>,
     waker: &'s Waker,
     inputs: ThreadInputs<J, W>,
-) -> Begun
+) -> StartedThreads
 where
     J: Naming + Send + Sync + 's,
     R: Net<Listener = TcpListener, Stream = TcpStream> + Wait + Clock + Sync,
     W: Drain + Send + Drop + 's,
     E: Drain + Send + Drop,
-    T: Turn + Sync,
+    T: SessionHooks + Sync,
 {
     let ThreadInputs {
         reports,
@@ -139,30 +146,30 @@ where
     } = inputs;
     let PageAndPeers { page, shares } = page_and_peers;
     let (endpoint, page_waker) = page_parts(page);
-    let reports = begin_reports(
+    let reports = start_reports(
         scope,
         rt,
-        common,
+        context,
         first_gates.reports,
         news,
         reports,
         output,
     );
-    let is_shown = begin_page(scope, rt, common, first_gates.pages, endpoint, pages);
-    let are_pulled = begin_pulls(scope, rt, common, waker, shares, pullers);
-    let are_worked = begin_work(scope, rt, common, waker, workers, first_gates.workers);
-    Begun {
+    let has_page = start_page(scope, rt, context, first_gates.pages, endpoint, pages);
+    let has_pullers = start_pulls(scope, rt, context, waker, shares, pullers);
+    let has_workers = start_workers(scope, rt, context, waker, workers, first_gates.workers);
+    StartedThreads {
         reports,
         page_waker,
-        is_refused: !(is_shown && are_pulled && are_worked),
+        is_refused: !(has_page && has_pullers && has_workers),
     }
 }
 
 /// Begins the thread that prints reports.
-fn begin_reports<'s, 'e, J, R, W, E, T>(
+fn start_reports<'s, 'e, J, R, W, E, T>(
     scope: &Scope<'s, &'e ()>,
     rt: &'s R,
-    common: &'s Common<'_, E, T>,
+    context: &'s SiteContext<'_, E, T>,
     first: InForce,
     news: &'s News<J>,
     window: OwnWindow<J>,
@@ -173,20 +180,20 @@ where
     R: Wait + Clock + Sync,
     W: Drain + Send + Drop + 's,
     E: Drain + Send + Drop,
-    T: Turn + Sync,
+    T: SessionHooks + Sync,
 {
-    let begun = scope.spawn(move || print_all(rt, common, first, news, window, output));
-    match begun {
+    let started = scope.spawn(move || run_reports(rt, context, first, news, window, output));
+    match started {
         Ok(reports) => Some(reports),
         Err(_) => None,
     }
 }
 
 /// Has a thread show the site to browsers, where it listens for them. False where the system refused it.
-fn begin_page<'s, 'e, J, R, E, T>(
+fn start_page<'s, 'e, J, R, E, T>(
     scope: &Scope<'s, &'e ()>,
     rt: &'s R,
-    common: &'s Common<'_, E, T>,
+    context: &'s SiteContext<'_, E, T>,
     first: InForce,
     endpoint: Option<(PageEndpoint, Vec<String>)>,
     window: OwnWindow<J>,
@@ -195,21 +202,21 @@ where
     J: Naming + Send + Sync + 's,
     R: Wait + Clock + Sync,
     E: Drain + Send + Drop,
-    T: Turn + Sync,
+    T: SessionHooks + Sync,
 {
     match endpoint {
         Some(endpoint) => scope
-            .spawn(move || show(rt, common, first, endpoint, window))
+            .spawn(move || run_pages(rt, context, first, endpoint, window))
             .is_ok(),
         None => true,
     }
 }
 
 /// Has a thread pull from each share of the peers. False where the system refused one.
-fn begin_pulls<'s, 'e, J, R, E, T>(
+fn start_pulls<'s, 'e, J, R, E, T>(
     scope: &Scope<'s, &'e ()>,
     rt: &'s R,
-    common: &'s Common<'_, E, T>,
+    context: &'s SiteContext<'_, E, T>,
     waker: &'s Waker,
     shares: Vec<Vec<Peer>>,
     pullers: Vec<Puller<J>>,
@@ -218,21 +225,21 @@ where
     J: Naming + Send + Sync + 's,
     R: Net<Listener = TcpListener, Stream = TcpStream> + Wait + Clock + Sync,
     E: Drain + Send + Drop,
-    T: Turn + Sync,
+    T: SessionHooks + Sync,
 {
-    let mut are_begun = true;
+    let mut are_started = true;
     for (peers, puller) in shares.into_iter().zip(pullers) {
-        let begun = scope.spawn(move || pull(rt, common, waker, peers, puller));
-        are_begun &= begun.is_ok();
+        let started = scope.spawn(move || run_puller(rt, context, waker, peers, puller));
+        are_started &= started.is_ok();
     }
-    are_begun
+    are_started
 }
 
 /// Begins a worker thread for each gate. False if the system refused one.
-fn begin_work<'s, 'e, J, R, E, T>(
+fn start_workers<'s, 'e, J, R, E, T>(
     scope: &Scope<'s, &'e ()>,
     rt: &'s R,
-    common: &'s Common<'_, E, T>,
+    context: &'s SiteContext<'_, E, T>,
     waker: &'s Waker,
     workers: Vec<Worker<J>>,
     first_gates: Vec<InForce>,
@@ -241,67 +248,67 @@ where
     J: Naming + Send + Sync + 's,
     R: Wait + Sync,
     E: Drain + Send + Drop,
-    T: Turn + Sync,
+    T: SessionHooks + Sync,
 {
-    let mut are_begun = true;
+    let mut are_started = true;
     for (worker, first) in workers.into_iter().zip(first_gates) {
-        let worker = scope.spawn(move || work(rt, common, first, waker, worker));
-        are_begun &= worker.is_ok();
+        let worker = scope.spawn(move || run_worker(rt, context, first, waker, worker));
+        are_started &= worker.is_ok();
     }
-    are_begun
+    are_started
 }
 
 /// Runs the loop, and then has the other threads end.
 fn run_loop<J, R, E, T, K>(
     rt: &R,
-    common: &Common<'_, E, T>,
+    context: &SiteContext<'_, E, T>,
     news: &News<J>,
-    begun: Begun,
+    started: StartedThreads,
+    loop_inputs: LoopInputs<J>,
     group: &mut GroupCommit<J, K>,
-    event_loop: EventLoop,
-    ends: LoopEnds<J>,
-) -> Ended<J>
+) -> EndedThreads<J>
 where
     J: Opening,
     R: Threads + Wait + Clock,
     E: Drain,
-    T: Turn,
+    T: SessionHooks,
     K: Keeps,
 {
-    stop_where(rt, common, begun.is_refused);
+    stop_where(rt, context, started.is_refused);
     let site = Site {
-        metrics: &common.metrics,
+        metrics: &context.metrics,
         news,
-        errors: &common.errors,
-        stop: common.stop,
+        errors: &context.errors,
+        stop: context.stop,
     };
+    let LoopInputs { event_loop, ends } = loop_inputs;
     let flushed = serve_sessions(rt, site, event_loop, ends, group);
-    end_all(rt, common, news, begun, flushed)
+    end_all(rt, context, news, started, flushed)
 }
 
 /// Has the threads beside the loop end, and waits for that which prints the reports.
 fn end_all<J, R, E, T>(
     rt: &R,
-    common: &Common<'_, E, T>,
+    context: &SiteContext<'_, E, T>,
     news: &News<J>,
-    begun: Begun,
+    started: StartedThreads,
     flushed: Result<Published<J>, NotKept>,
-) -> Ended<J>
+) -> EndedThreads<J>
 where
     J: Naming,
     R: Threads + Wait,
     E: Drain,
-    T: Turn,
+    T: SessionHooks,
 {
-    let Begun {
+    let StartedThreads {
         reports,
         page_waker,
         is_refused,
-    } = begun;
-    common.stop.ask(rt);
+    } = started;
+    context.stop.ask(rt);
     wake(&page_waker);
     close(rt, news, &flushed);
-    Ended {
+    EndedThreads {
         flushed,
         printed: joined(rt, reports),
         is_refused,
@@ -309,9 +316,13 @@ where
 }
 
 /// Asks for the stop where a thread was refused.
-fn stop_where<R: Wait, E: Drain, T: Turn>(rt: &R, common: &Common<'_, E, T>, is_refused: bool) {
+fn stop_where<R: Wait, E: Drain, T: SessionHooks>(
+    rt: &R,
+    context: &SiteContext<'_, E, T>,
+    is_refused: bool,
+) {
     if is_refused {
-        common.stop.ask(rt);
+        context.stop.ask(rt);
     }
 }
 
@@ -331,24 +342,22 @@ fn joined<R: Threads + Wait>(rt: &R, reports: Option<JoinHandle<Printed>>) -> Op
 }
 
 /// Prints what the site has to say of its verdicts.
-fn print_all<R: Wait + Clock, W: Drain + Drop, E: Drain, T: Turn, J: Naming>(
+fn run_reports<R: Wait + Clock, W: Drain + Drop, E: Drain, T: SessionHooks, J: Naming>(
     rt: &R,
-    common: &Common<'_, E, T>,
+    context: &SiteContext<'_, E, T>,
     first: InForce,
     news: &News<J>,
     window: OwnWindow<J>,
     output: W,
 ) -> Printed {
-    print_reports(
-        rt,
-        common.alloc,
-        common.ruling(first),
-        common.options.prints,
-        news,
+    let printer = ReportPrinter::new(
+        context.alloc,
+        context.gate_follower(first),
+        context.options.prints,
         window,
         output,
-        &common.errors,
-    )
+    );
+    print_reports(rt, printer, news, &context.errors)
 }
 
 /// Where browsers connect to, with the names by which they may call this machine, and what wakes the thread that serves
@@ -367,9 +376,9 @@ fn page_parts(page: Option<PageSetup>) -> (Option<(PageEndpoint, Vec<String>)>, 
 }
 
 /// Shows the site to browsers.
-fn show<R, E, T, J>(
+fn run_pages<R, E, T, J>(
     rt: &R,
-    common: &Common<'_, E, T>,
+    context: &SiteContext<'_, E, T>,
     first: InForce,
     endpoint: (PageEndpoint, Vec<String>),
     window: OwnWindow<J>,
@@ -377,34 +386,34 @@ fn show<R, E, T, J>(
 where
     R: Wait + Clock,
     E: Drain,
-    T: Turn,
+    T: SessionHooks,
     J: Naming,
 {
     let (endpoint, hosts) = endpoint;
-    let context = PageContext {
+    let page_context = PageContext {
         rt,
-        alloc: common.alloc,
-        metrics: &common.metrics,
-        site: common.options.guard.own,
-        start: common.options.start,
-        workers: common.options.workers,
-        peers: common.options.peers.as_slice(),
+        alloc: context.alloc,
+        metrics: &context.metrics,
+        site: context.options.guard.own,
+        start: context.options.start,
+        workers: context.options.workers,
+        peers: context.options.peers.as_slice(),
     };
-    let ruling = common.ruling(first);
+    let follower = context.gate_follower(first);
     show_pages(
-        context,
-        ruling,
+        page_context,
+        follower,
         endpoint,
         hosts.as_slice(),
-        common.stop,
+        context.stop,
         window,
     );
 }
 
 /// Pulls from its share of the peers. It notes whether another process takes in as this site.
-fn pull<R, E, T, J>(
+fn run_puller<R, E, T, J>(
     rt: &R,
-    common: &Common<'_, E, T>,
+    context: &SiteContext<'_, E, T>,
     waker: &Waker,
     peers: Vec<Peer>,
     puller: Puller<J>,
@@ -412,64 +421,64 @@ fn pull<R, E, T, J>(
 where
     R: Wait + Clock + Net<Stream = TcpStream>,
     E: Drain,
-    T: Turn,
+    T: SessionHooks,
     J: Naming,
 {
-    let port = PullPort::new(rt, common.alloc, waker, puller);
-    if is_start_taken_after(rt, common, peers, port) {
-        common.is_start_taken.store(true, Ordering::SeqCst);
+    let port = PullPort::new(rt, context.alloc, waker, puller);
+    if is_start_taken_after(rt, context, peers, port) {
+        context.is_start_taken.store(true, Ordering::SeqCst);
     }
 }
 
 /// Pulls through a port from its share of the peers. Whether another process takes in as this site.
 fn is_start_taken_after<R, E, T, J>(
     rt: &R,
-    common: &Common<'_, E, T>,
+    context: &SiteContext<'_, E, T>,
     peers: Vec<Peer>,
     port: PullPort<'_, R, J>,
 ) -> bool
 where
     R: Wait + Clock + Net<Stream = TcpStream>,
     E: Drain,
-    T: Turn,
+    T: SessionHooks,
     J: Naming,
 {
-    let pulling = pulling_of(common);
-    let mut port = behind_guard(common, port);
-    pull_from_peers(rt, &pulling, peers, &common.errors, &mut port);
+    let pulling = pulling_of(context);
+    let mut port = behind_guard(context, port);
+    pull_from_peers(rt, &pulling, peers, &context.errors, &mut port);
     port.sink().is_start_taken()
 }
 
 /// A sink behind the guard of the site.
-fn behind_guard<'g, E: Drain, T: Turn, K: Sink>(
-    common: &'g Common<'_, E, T>,
+fn behind_guard<'g, E: Drain, T: SessionHooks, K: Sink>(
+    context: &'g SiteContext<'_, E, T>,
     sink: K,
 ) -> Guarded<'g, K>
-    ensures { (guard_in result ≡ common.now.options.guard) × (sink_in result ≡ sink) }
+    ensures { (guard_in result ≡ context.now.options.guard) × (sink_in result ≡ sink) }
 {
-    Guarded::new(&common.options.guard, sink)
+    Guarded::new(&context.options.guard, sink)
 }
 
 /// The settings of pulls.
-fn pulling_of<'a, E: Drain, T: Turn>(common: &'a Common<'_, E, T>) -> Pulling<'a, T> {
+fn pulling_of<'a, E: Drain, T: SessionHooks>(context: &'a SiteContext<'_, E, T>) -> Pulling<'a, T> {
     Pulling {
-        alloc: common.alloc,
-        addresses: common.options.peers.as_slice(),
-        admission: common.admission(),
-        pause: common.options.pause,
+        alloc: context.alloc,
+        addresses: context.options.peers.as_slice(),
+        admission: context.admission(),
+        pause: context.options.pause,
         patience: Patience {
             limit: Duration::from_millis(PULL_PATIENCE_MS),
             idle: Some(Duration::from_millis(PULL_PATIENCE_MS)),
         },
-        stop: common.stop,
-        metrics: &common.metrics,
+        stop: context.stop,
+        metrics: &context.metrics,
     }
 }
 
 /// Runs a worker.
-fn work<R, E, T, J>(
+fn run_worker<R, E, T, J>(
     rt: &R,
-    common: &Common<'_, E, T>,
+    context: &SiteContext<'_, E, T>,
     first: InForce,
     waker: &Waker,
     worker: Worker<J>,
@@ -477,21 +486,18 @@ fn work<R, E, T, J>(
 where
     R: Wait,
     E: Drain,
-    T: Turn,
+    T: SessionHooks,
     J: Naming,
 {
-    let admission = common.admission();
-    do_jobs(
+    let worker_context = WorkerContext {
         rt,
-        common.alloc,
-        &admission,
-        common.ruling(first),
-        worker,
-        waker,
-        &common.metrics,
-        &common.errors,
-        common.turn,
-    );
+        alloc: context.alloc,
+        admission: context.admission(),
+        metrics: &context.metrics,
+        errors: &context.errors,
+        hooks: context.hooks,
+    };
+    do_jobs(&worker_context, context.gate_follower(first), worker, waker);
 }
 
 /// Brings the last publish, and has nothing new come any more.

@@ -2,7 +2,7 @@ use Rattle.std.proofs.Common.{IfOk, List, subst, sym}
 use Rattle.std.specs.Arc.{arc_value}
 use Rattle.std.specs.List.{All}
 use Rattle.site_serve.specs.Acknowledged.{IsTakenInto}
-use Rattle.site_serve.specs.declared.desk.Waiter.{Waiter}
+use Rattle.site_serve.specs.declared.requests.Waiter.{Waiter}
 use Rattle.site_serve.proofs.Held.{all_shown}
 use Rattle.site_serve.proofs.group_commit.GroupCommit.publish.Goals as goal
 use Rattle.site_shared.specs.Publishes.{arrive}

@@ -1,5 +1,5 @@
 use Rattle.std.proofs.Common.{◌≡◌, Some, ap, ◌∙◌}
-use Rattle.site_serve.specs.Answered.{IsSeatAfter}
+use Rattle.site_serve.specs.Answered.{IsPlaceAfter}
 use Rattle.site_serve.proofs.Seating.{none_there, others_stay, seat_found}
 use Rattle.site_serve.proofs.places.Places.take_reply.Goals as goal
 
@@ -20,7 +20,7 @@ returns-then-not-leaves_with-clause-strangers g c session is differs =
 pub returns-then-not-leaves_with-clause-own : goal.returns-then-not-leaves_with-clause-own
 returns-then-not-leaves_with-clause-own g c session is same =
     seat_found c.args.self.now.sessions.items c.args.reply.place c.in-Some.slot.now c.leaves_with.new.slot session
-    (IsSeatAfter c.args.reply.work session) c.in-Some.ensures.item.0
+    (IsPlaceAfter c.args.reply.work session) c.in-Some.ensures.item.0
     c.in-Some.ensures.value is (λ has. c.leaves_with.ensures.own session has same)
 
 pub returns-clause-others : goal.returns-clause-others
@@ -36,5 +36,5 @@ returns-clause-strangers g c session is differs =
 pub returns-clause-own : goal.returns-clause-own
 returns-clause-own g c session is same =
     seat_found c.args.self.now.sessions.items c.args.reply.place c.in-Some.slot.now c.leaves_with.new.slot session
-    (IsSeatAfter c.args.reply.work session) c.in-Some.ensures.item.0
+    (IsPlaceAfter c.args.reply.work session) c.in-Some.ensures.item.0
     c.in-Some.ensures.value is (λ has. c.leaves_with.ensures.own session has same)

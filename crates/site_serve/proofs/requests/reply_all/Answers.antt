@@ -2,7 +2,7 @@ use Rattle.std.proofs.Common.{◌∷◌, ◌++◌, ◌∙◌, [], ap, subst, sym
 use Rattle.std.proofs.lemmas.List.{take_more}
 use Rattle.site_serve.specs.Answered.{AreAnswered}
 use Rattle.site_serve.proofs.Replies.{one_after}
-use Rattle.site_serve.proofs.desk.reply_all.Goals as goal
+use Rattle.site_serve.proofs.requests.reply_all.Goals as goal
 
 pub loop-waiter-preserved : goal.loop-waiter-preserved
 loop-waiter-preserved g c =

@@ -1,5 +1,5 @@
 use Rattle.site_serve.proofs.Replies.{says_held, session_answered}
-use Rattle.site_serve.proofs.desk.reply_one.Goals as goal
+use Rattle.site_serve.proofs.requests.reply_one.Goals as goal
 
 pub returns-in-Session : goal.returns-in-Session
 returns-in-Session g c =

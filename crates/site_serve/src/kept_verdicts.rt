@@ -17,7 +17,7 @@ use std::alloc::Global;
 
 /// The verdicts on what a window shows: those that were kept, brought up to date, or new ones, under a copy of the
 /// gate, where none were. It costs what `OwnWindow::refresh` does, or `OwnWindow::watch`.
-pub fn brought_up<J: Naming>(
+pub fn up_to_date_watch<J: Naming>(
     gate: &Gate,
     window: &mut OwnWindow<J>,
     kept: Option<OwnWatch<J>>,
@@ -48,7 +48,7 @@ fn new_watch<J: Naming>(gate: &Gate, window: &mut OwnWindow<J>) -> Result<OwnWat
 }
 
 /// A copy of the verdicts of a watch, which has none only where memory was refused.
-pub fn copied<J: Naming>(alloc: Global, watch: &OwnWatch<J>) -> Result<Verdicts, NoMemory>
+pub fn verdicts_copy<J: Naming>(alloc: Global, watch: &OwnWatch<J>) -> Result<Verdicts, NoMemory>
     ensures { IfOk result (AreVerdicts watch.now.watch.gate (state_of (arrive watch.now.watch.seen))) }
 {
     let verdicts = watch.verdicts().ok_or(NoMemory)?;

@@ -8,16 +8,16 @@ ghost use Rattle.report_changes.specs.Lines.{changes_text};
 ghost use Rattle.report_changes.specs.Listing.{listed_of};
 ghost use Rattle.report_text.specs.Report.{report_of};
 ghost use Rattle.site_serve.specs.Fault.{after_window};
-ghost use Rattle.site_serve.specs.InForce.{ruling_gate};
+ghost use Rattle.site_serve.specs.InForce.{followed_gate};
 ghost use Rattle.site_serve.specs.Reports.{IsPrintedOf};
 ghost use Rattle.site_shared.specs.Accounts.{GoesOn};
 ghost use Rattle.state_core.specs.Items.{item_cmp};
 
 use super::errors::Errors;
-use super::kept::brought_up;
+use super::gate_follower::GateFollower;
+use super::kept_verdicts::up_to_date_watch;
 use super::news::{News, Notice};
 use super::opening::{OwnWatch, OwnWindow};
-use super::ruling::Ruling;
 use super::setup::{Prints, ServeFault};
 use byte_ends::{Drain, Ends, write_all};
 use gate_rules::Gate;
@@ -68,43 +68,27 @@ struct Shown {
 /// is reported on standard error.
 pub fn print_reports<R: Wait + Clock, W: Drain + Drop, E: Drain, J: Naming>(
     rt: &R,
-    alloc: Global,
-    ruling: Ruling<'_>,
-    prints: Prints,
+    printer: ReportPrinter<'_, W, J>,
     news: &News<J>,
-    window: OwnWindow<J>,
-    output: W,
     errors: &Errors<E>,
 ) -> Printed {
-    let mut printing = Printing {
-        alloc,
-        ruling,
-        prints,
-        window,
-        output,
-        kept: None,
-        last: nothing_shown(alloc),
-        printed: Printed {
-            written: true,
-            fault: None,
-        },
-    };
+    let mut printer = printer;
     let mut is_over = false;
     for _ in rt.forever() {
-        let rest = printing.print_next(rt, errors);
+        let rest = printer.print_next(rt, errors);
         if is_over {
-            return printing.printed;
+            return printer.printed;
         }
-        is_over = printing.is_over_at(news.next(rt, rest));
+        is_over = printer.is_over_at(news.next(rt, rest));
     }
     unreachable!()
 }
 
-/// What prints the reports of a site, and what it printed.
+/// Prints the reports of a site: the gate and the window that they are made with, the output, and what was printed.
 #[derive(Drop)]
-struct Printing<'a, W: Drop, J: Naming> {
+pub struct ReportPrinter<'a, W: Drop, J: Naming> {
     alloc: Global,
-    ruling: Ruling<'a>,
+    follower: GateFollower<'a>,
     prints: Prints,
     window: OwnWindow<J>,
     output: W,
@@ -112,17 +96,40 @@ struct Printing<'a, W: Drop, J: Naming> {
     kept: Option<OwnWatch<J>>,
     last: Shown,
     printed: Printed,
-    ghost under_gate: { ForSome kept (λ watch. watch.watch.gate ≡ ruling_gate ruling) },
+    ghost under_gate: { ForSome kept (λ watch. watch.watch.gate ≡ followed_gate follower) },
 }
 
-impl<W: Drain + Drop, J: Naming> Printing<'_, W, J> {
+impl<'a, W: Drain + Drop, J: Naming> ReportPrinter<'a, W, J> {
+    /// A printer that has printed nothing yet.
+    pub fn new(
+        alloc: Global,
+        follower: GateFollower<'a>,
+        prints: Prints,
+        window: OwnWindow<J>,
+        output: W,
+    ) -> ReportPrinter<'a, W, J> {
+        ReportPrinter {
+            alloc,
+            follower,
+            prints,
+            window,
+            output,
+            kept: None,
+            last: nothing_shown(alloc),
+            printed: Printed {
+                written: true,
+                fault: None,
+            },
+        }
+    }
+
     /// Prints what is shown now, if that is new. Returns how long to rest afterwards.
     fn print_next<R: Wait + Clock, E: Drain>(&mut self, rt: &R, errors: &Errors<E>) -> Duration {
-        self.ruling.follow(rt, &mut self.kept);
+        self.follower.follow(rt, &mut self.kept);
         let begun = Instant::now(rt);
         let shown = next_shown(
             self.alloc,
-            self.ruling.in_force.gate(),
+            self.follower.in_force.gate(),
             self.prints,
             &mut self.window,
             &mut self.kept,
@@ -148,7 +155,7 @@ impl<W: Drain + Drop, J: Naming> Printing<'_, W, J> {
             }
             Err(fault) => {
                 if self.printed.fault.is_none() {
-                    errors.not_shown(rt, self.alloc, fault);
+                    errors.report_serve_fault(rt, self.alloc, fault);
                 }
                 self.printed.fault = Some(fault);
             }
@@ -195,7 +202,7 @@ fn is_printed<R: Wait, W: Drain, E: Drain>(
 ) -> bool {
     let is_written = write_all(output, shown.text.as_slice()).is_ok();
     if !is_written {
-        errors.not_printed(rt, alloc);
+        errors.report_output_fault(rt, alloc);
     }
     is_written
 }
@@ -230,7 +237,7 @@ fn next_shown<J: Naming>(
     if prints == Prints::Nothing {
         return Ok(nothing_shown(alloc));
     }
-    let watch = match brought_up(gate, window, kept.take()) {
+    let watch = match up_to_date_watch(gate, window, kept.take()) {
         Ok(watch) => watch,
         Err(fault) => return Err(serve_fault(fault)),
     };

@@ -13,7 +13,7 @@ use std::sync::Arc;
 
 /// A site that has ended.
 #[derive(Drop)]
-pub struct Closed<K> {
+pub struct EndedSite<K> {
     /// What keeps its operations.
     pub keeper: K,
     /// What it leaves, or why it didn't run to its end.
@@ -22,7 +22,7 @@ pub struct Closed<K> {
 
 /// How the threads of a site left it.
 #[derive(Drop)]
-pub struct Left {
+pub struct RunOutcome {
     /// Whether all that it was to print was written.
     pub written: bool,
     /// Whether it ended because another process runs as this site.
@@ -30,30 +30,33 @@ pub struct Left {
 }
 
 /// The result of a site that couldn't be run.
-pub fn unserved<K: Keeps>(keeper: K, fault: ServeFault) -> Closed<K>
+pub fn failed_site<K: Keeps>(keeper: K, fault: ServeFault) -> EndedSite<K>
     ensures keeps { (begun : List Operation) → HasKept K.survives (K.holds keeper) begun result.keeper result.served }
     ensures fault { result.served ≡ Err fault }
 {
     keeper.what_it_has_survives();
-    Closed {
+    EndedSite {
         keeper,
         served: Err(fault),
     }
 }
 
 /// What a site leaves, from how its threads ended and the record that it published last.
-pub fn served_of(left: Result<Left, ServeFault>, shown: Arc<Replica>) -> Result<Served, ServeFault>
+pub fn served_of(
+    outcome: Result<RunOutcome, ServeFault>,
+    shown: Arc<Replica>,
+) -> Result<Served, ServeFault>
     ensures shown { IfOk result (λ served. served.replica ≡ arc_value shown) }
-    ensures ended { IfOk result (λ served. IfOk left
+    ensures ended { IfOk result (λ served. IfOk outcome
         (λ ended. (served.written ≡ ended.written) × (served.is_start_taken ≡ ended.is_start_taken))) }
-    ensures err { IfErr left (λ fault. result ≡ Err fault) }
-    ensures memory { OnOk left (IfErr result (λ fault. fault ≡ ServeFault.NoMemory)) }
+    ensures err { IfErr outcome (λ fault. result ≡ Err fault) }
+    ensures memory { OnOk outcome (IfErr result (λ fault. fault ≡ ServeFault.NoMemory)) }
 {
-    let Left {
+    let RunOutcome {
         written,
         is_start_taken,
-    } = match left {
-        Ok(left) => left,
+    } = match outcome {
+        Ok(outcome) => outcome,
         Err(fault) => return Err(fault),
     };
     match unshared(shown) {

@@ -1,7 +1,7 @@
 use Rattle.std.proofs.Common.{◌∙◌, ◌∷◌, ◌++◌, [], sym, ap, append_assoc}
 use Rattle.site_shared.specs.Accounts.{record_of}
 use Rattle.site_serve.proofs.Held.{one_more_part}
-use Rattle.site_serve.proofs.desk.hold_all_new.Goals as goal
+use Rattle.site_serve.proofs.requests.hold_all_new.Goals as goal
 
 pub loop-op-preserved : goal.loop-op-preserved
 loop-op-preserved g c =

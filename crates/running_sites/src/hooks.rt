@@ -2,19 +2,19 @@
 
 use key_file::{KeyFault, Keys};
 use key_files::{KeyReader, NoKeys};
-use site_serve::Turn;
+use site_serve::SessionHooks;
 
 /// Nothing is done before and after a session.
 #[derive(Drop)]
-pub struct NoTurn;
+pub struct NoHooks;
 
-impl Turn for NoTurn {
-    fn enter(&self, _session: u64) {}
+impl SessionHooks for NoHooks {
+    fn before(&self, _session: u64) {}
 
-    fn left(&self, _session: u64) {}
+    fn after(&self, _session: u64) {}
 }
 
-impl KeyReader for NoTurn {
+impl KeyReader for NoHooks {
     fn keys(&self, name: &str) -> Result<Keys, KeyFault> {
         NoKeys.keys(name)
     }

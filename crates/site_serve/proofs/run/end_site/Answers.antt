@@ -1,6 +1,6 @@
 use Rattle.std.specs.Arc.{arc_value}
 use Rattle.site_serve.proofs.Ends.{kept_served}
-use Rattle.site_serve.proofs.run.closed.Goals as goal
+use Rattle.site_serve.proofs.run.end_site.Goals as goal
 
 pub returns : goal.returns
 returns g c =

@@ -7,11 +7,11 @@ use Rattle.console.specs.Inputs.{IsRefused, IsUnreadAs, gate_file, input}
 use Rattle.console.specs.Refusals.{refusal_line}
 use Rattle.console.specs.Showing.{ErrorOutput, ShowsLine}
 use Rattle.console.specs.declared.refusals.Refusal.{Refusal}
-use Rattle.serve_command.specs.declared.input_end.Wish.{Wish}
-use Rattle.serve_command.specs.declared.input_end.Wish.TheVariants.{Nothing, Reload, Stop}
+use Rattle.serve_command.specs.declared.input_commands.InputCommand.{InputCommand}
+use Rattle.serve_command.specs.declared.input_commands.InputCommand.TheVariants.{Nothing, Reload, Stop}
 
-abbrev pub wish_in : List ℕ → Wish
-wish_in line =
+abbrev pub parse_command : List ℕ → InputCommand
+parse_command line =
     if bytes_eq line (codes "stop") then Stop
     else if bytes_eq line (codes "reload") then Reload
     else Nothing

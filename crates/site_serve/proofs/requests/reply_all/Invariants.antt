@@ -1,6 +1,6 @@
 use Rattle.std.proofs.Common.{take}
 use Rattle.site_serve.specs.Answered.{AreAnswered}
-use Rattle.site_serve.proofs.desk.reply_all.Given as goal
+use Rattle.site_serve.proofs.requests.reply_all.Given as goal
 
 -- the waiters so far are answered
 abbrev pub invariant-loop-waiter : goal.invariant-loop-waiter

@@ -1,14 +1,14 @@
 //! What the threads of a site share, and what each of them judges under.
 
 ghost use Rattle.std.specs.Prelude.{◌≡◌, IfOk};
-ghost use Rattle.site_serve.specs.InForce.{gate_in, ruling_gate};
+ghost use Rattle.site_serve.specs.InForce.{followed_gate, gate_in};
 
 use super::admission::Admission;
 use super::errors::Errors;
+use super::gate_follower::GateFollower;
 use super::metrics::Metrics;
 use super::reloads::{InForce, Reloads};
-use super::ruling::Ruling;
-use super::setup::{Prints, Turn};
+use super::setup::{Prints, SessionHooks};
 use byte_ends::Drain;
 use pull_guard::Guard;
 use site_address::PeerAddress;
@@ -35,7 +35,7 @@ pub(super) struct SiteOptions<'a> {
 
 /// What the threads of a site share.
 #[derive(Drop)]
-pub(super) struct Common<'a, E: Drain, T: Turn> {
+pub(super) struct SiteContext<'a, E: Drain, T: SessionHooks> {
     pub alloc: Global,
     pub options: SiteOptions<'a>,
     /// The gate that the site begins with.
@@ -43,7 +43,7 @@ pub(super) struct Common<'a, E: Drain, T: Turn> {
     pub errors: Errors<E>,
     pub metrics: Metrics,
     pub stop: &'a Stop,
-    pub turn: &'a T,
+    pub hooks: &'a T,
     /// Whether another process takes in as this site.
     pub is_start_taken: AtomicBool,
 }
@@ -91,18 +91,18 @@ fn shared_gates(
     Ok(first_gates)
 }
 
-impl<E: Drain, T: Turn> Common<'_, E, T> {
+impl<E: Drain, T: SessionHooks> SiteContext<'_, E, T> {
     /// A ruling that begins with this gate.
-    pub(super) fn ruling(&self, first: InForce) -> Ruling<'_>
-        ensures { ruling_gate result ≡ gate_in first }
+    pub(super) fn gate_follower(&self, first: InForce) -> GateFollower<'_>
+        ensures { followed_gate result ≡ gate_in first }
     {
-        Ruling::new(&self.options.reloads, first)
+        GateFollower::new(&self.options.reloads, first)
     }
 
     /// By what the site admits connections, and dials.
     pub(super) fn admission(&self) -> Admission<'_, T> {
         Admission {
-            reader: self.turn,
+            reader: self.hooks,
             keys: self.options.keys,
             site: self.options.guard.own,
         }

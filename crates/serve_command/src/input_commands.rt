@@ -5,7 +5,7 @@ ghost use Rattle.console.specs.Console.{is_input};
 ghost use Rattle.console.specs.Inputs.{IsHad, gate_file, input};
 ghost use Rattle.console.specs.Showing.{error_output};
 ghost use Rattle.gate_rules.specs.Spelling.{SpellsGate};
-ghost use Rattle.serve_command.specs.Wishes.{IsRefusedAgain, ShowsRefused, wish_in};
+ghost use Rattle.serve_command.specs.InputCommands.{IsRefusedAgain, ShowsRefused, parse_command};
 
 use super::shared_errors::SharedErrors;
 use byte_ends::{BytesFault, Drain, Ends, Source};
@@ -25,7 +25,7 @@ const LINE_LIMIT: usize = 1024;
 
 /// What the next line of the input asks for.
 #[derive(Clone, Copy, Debug, PartialEq, Eq)]
-pub enum Wish {
+pub enum InputCommand {
     /// Nothing.
     Nothing,
     /// To read the gate file again.
@@ -39,7 +39,7 @@ pub enum Wish {
 /// What the thread needs to handle lines: the stop flag, the gates that are put in force, the name of the gate file,
 /// the files, and standard error for refusals.
 #[derive(Drop)]
-pub struct Asked<R, N> {
+pub struct InputContext<R, N> {
     pub stop: Arc<Stop, Global>,
     pub reloads: Arc<Reloads, Global>,
     pub gate: String,
@@ -55,85 +55,91 @@ pub fn lines_of_input(alloc: Global) -> Result<LineReader, AllocError> {
 /// Starts a thread that handles the lines of the input: at a line `reload` it reads the gate file again, and at a line
 /// `stop`, or at the end of the input, it asks the site to stop. The thread is detached. Returns whether it could be
 /// started.
-pub fn hear_input<R, I, N>(
+pub fn start_input_thread<R, I, N>(
     rt: R,
     alloc: Global,
     lines: LineReader,
     input: I,
-    asked: Asked<R, N>,
+    context: InputContext<R, N>,
 ) -> bool
 where
     R: Threads + Wait + Clock + Copy + Send + 'static,
     I: Source + Send + Drop + 'static,
     N: Named + Send + Drop + 'static,
 {
-    thread::spawn(&rt, move || heed(rt, alloc, lines, input, asked)).is_ok()
+    thread::spawn(&rt, move || handle_input(rt, alloc, lines, input, context)).is_ok()
 }
 
 /// Handles the lines of the input up to its end or a line `stop`, and then asks the site to stop.
-fn heed<R, I, N>(rt: R, alloc: Global, lines: LineReader, input: I, asked: Asked<R, N>)
+fn handle_input<R, I, N>(
+    rt: R,
+    alloc: Global,
+    lines: LineReader,
+    input: I,
+    context: InputContext<R, N>,
+)
 where
     R: Wait + Clock + Copy,
     I: Source + Drop,
     N: Named + Drop,
 {
-    let (mut lines, mut input, mut asked) = (lines, input, asked);
+    let (mut lines, mut input, mut context) = (lines, input, context);
     for _ in rt.forever() {
-        match next_wish(&mut lines, &mut input) {
-            Wish::Nothing => {}
-            Wish::Reload => reload(rt, alloc, &mut asked),
-            Wish::Stop | Wish::Over => break,
+        match next_command(&mut lines, &mut input) {
+            InputCommand::Nothing => {}
+            InputCommand::Reload => reload(rt, alloc, &mut context),
+            InputCommand::Stop | InputCommand::Over => break,
         }
     }
-    asked.stop.ask(&rt);
+    context.stop.ask(&rt);
 }
 
 /// What the next line of the input asks for. A line that is too long is skipped. A failed read is the end of the input.
-fn next_wish<S: Source>(lines: &mut LineReader, input: &mut S) -> Wish {
+fn next_command<S: Source>(lines: &mut LineReader, input: &mut S) -> InputCommand {
     match lines.next_line(input) {
-        Ok(true) => wish_in(lines.line()),
-        Ok(false) => Wish::Over,
+        Ok(true) => parse_command(lines.line()),
+        Ok(false) => InputCommand::Over,
         Err(BytesFault::TooLong) => match lines.pass_over(input) {
-            Ok(true) => Wish::Nothing,
-            _ => Wish::Over,
+            Ok(true) => InputCommand::Nothing,
+            _ => InputCommand::Over,
         },
-        Err(_) => Wish::Over,
+        Err(_) => InputCommand::Over,
     }
 }
 
 /// What a line asks for.
-fn wish_in(line: &[u8]) -> Wish
-    ensures { result ≡ wish_in line.now }
+fn parse_command(line: &[u8]) -> InputCommand
+    ensures { result ≡ parse_command line.now }
 {
     if line == b"stop".as_slice() {
-        Wish::Stop
+        InputCommand::Stop
     } else if line == b"reload".as_slice() {
-        Wish::Reload
+        InputCommand::Reload
     } else {
-        Wish::Nothing
+        InputCommand::Nothing
     }
 }
 
 /// Reads the gate file again, and puts its gate in force. If it is refused, that is reported, and the present gate
 /// stays in force.
-fn reload<R, N>(rt: R, alloc: Global, asked: &mut Asked<R, N>)
+fn reload<R, N>(rt: R, alloc: Global, context: &mut InputContext<R, N>)
 where
     R: Wait + Clock + Copy,
     N: Named,
 {
     let gate = read_by(
         alloc,
-        asked.gate.as_str(),
+        context.gate.as_str(),
         &mut Ends::new([].as_slice()),
         &mut Ends::new(Vec::new(alloc)),
-        &mut asked.files,
-        &mut asked.errors,
+        &mut context.files,
+        &mut context.errors,
     );
     let Some(gate) = gate else {
         return;
     };
-    if asked.reloads.put(&rt, alloc, gate).is_err() {
-        show_refusal(alloc, &Refusal::Memory, &mut asked.errors);
+    if context.reloads.put(&rt, alloc, gate).is_err() {
+        show_refusal(alloc, &Refusal::Memory, &mut context.errors);
     }
 }
 

@@ -1,5 +1,5 @@
 use Rattle.site_shared.specs.Publishes.{arrive}
-use Rattle.site_serve.proofs.run.run_begun.Given as goal
+use Rattle.site_serve.proofs.run.run_prepared.Given as goal
 
 -- the opening's list of publishes
 abbrev pub ghosts-run_opened-J-Naming : goal.ghosts-run_opened-J-Naming

@@ -1,7 +1,7 @@
 use Rattle.std.proofs.Common.{◌≡◌, ◌++◌}
 use Rattle.replica_core.specs.JournalLaws.{IsPartOf}
 use Rattle.site_shared.specs.Accounts.{record_of}
-use Rattle.site_serve.proofs.desk.hold_all_new.Given as goal
+use Rattle.site_serve.proofs.requests.hold_all_new.Given as goal
 
 -- the record has what it had at first and those that were handed out, and the others are left
 abbrev pub invariant-loop-op : goal.invariant-loop-op
