@@ -8,7 +8,7 @@ use super::finished::Finished;
 use super::journal::tape_fault;
 use super::keys::judge_keys;
 use super::prepared::{Site, SiteStreams};
-use super::running::{run_kept, run_taped};
+use super::running::{run_with_journal, run_with_keeper};
 use super::save::SnapshotFile;
 use super::tape::FileTape;
 use byte_ends::{Drain, Ends, Source};
@@ -216,7 +216,7 @@ where
     let mut snapshot_file = snapshot_file;
     match site.serving.journal {
         Some(name) => run_on_file(rt, alloc, name, site, streams, keys, &mut snapshot_file),
-        None => run_kept(
+        None => run_with_keeper(
             rt,
             alloc,
             site,
@@ -249,7 +249,7 @@ where
     L: KeyReader + Sync,
 {
     match tape_of(&rt, alloc, name, site.serving.save) {
-        Ok(tape) => ended_of(run_taped(rt, alloc, site, streams, keys, snapshot_file, tape)),
+        Ok(tape) => ended_of(run_with_journal(rt, alloc, site, streams, keys, snapshot_file, tape)),
         Err(ended) => Err(ended),
     }
 }

@@ -23,21 +23,21 @@ use std::time::Clock;
 /// The maximum length of a line, in bytes; a longer one is skipped.
 const LINE_LIMIT: usize = 1024;
 
-/// What the next line of the input asks for.
+/// A command on standard input.
 #[derive(Clone, Copy, Debug, PartialEq, Eq)]
 pub enum InputCommand {
-    /// Nothing.
+    /// The line is no command.
     Nothing,
-    /// To read the gate file again.
+    /// `reload`: the gate file is to be read again.
     Reload,
-    /// To stop the site.
+    /// `stop`: the site is to stop.
     Stop,
     /// The input has ended.
-    Over,
+    End,
 }
 
-/// What the thread needs to handle lines: the stop flag, the gates that are put in force, the name of the gate file,
-/// the files, and standard error for refusals.
+/// What the thread needs to carry out commands: the stop flag, the gates that are put in force, the name of the gate
+/// file, the files, and standard error for refusals.
 #[derive(Drop)]
 pub struct InputContext<R, N> {
     pub stop: Arc<Stop, Global>,
@@ -88,26 +88,26 @@ where
         match next_command(&mut lines, &mut input) {
             InputCommand::Nothing => {}
             InputCommand::Reload => reload(rt, alloc, &mut context),
-            InputCommand::Stop | InputCommand::Over => break,
+            InputCommand::Stop | InputCommand::End => break,
         }
     }
     context.stop.ask(&rt);
 }
 
-/// What the next line of the input asks for. A line that is too long is skipped. A failed read is the end of the input.
+/// Reads the next command. A line that is too long is skipped. A failed read is the end of the input.
 fn next_command<S: Source>(lines: &mut LineReader, input: &mut S) -> InputCommand {
     match lines.next_line(input) {
         Ok(true) => parse_command(lines.line()),
-        Ok(false) => InputCommand::Over,
+        Ok(false) => InputCommand::End,
         Err(BytesFault::TooLong) => match lines.pass_over(input) {
             Ok(true) => InputCommand::Nothing,
-            _ => InputCommand::Over,
+            _ => InputCommand::End,
         },
-        Err(_) => InputCommand::Over,
+        Err(_) => InputCommand::End,
     }
 }
 
-/// What a line asks for.
+/// The command of a line.
 fn parse_command(line: &[u8]) -> InputCommand
     ensures { result ≡ parse_command line.now }
 {

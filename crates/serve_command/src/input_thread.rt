@@ -1,4 +1,4 @@
-//! What a site shares with the thread that reads its standard input.
+//! Starts the thread that reads a site's standard input.
 
 use super::input_commands::{InputContext, lines_of_input, start_input_thread};
 use super::shared_errors::SharedErrors;
@@ -11,7 +11,8 @@ use std::sync::{Arc, Wait};
 use std::thread::Threads;
 use std::time::Clock;
 
-/// The stop flag, the gates that are put in force, and standard error.
+/// What a site shares with the thread that reads its standard input: the stop flag, the gates that are put in force, and
+/// standard error.
 #[derive(Drop)]
 pub struct SiteControls<R> {
     pub stop: Arc<Stop, Global>,
@@ -20,7 +21,7 @@ pub struct SiteControls<R> {
 }
 
 impl<R: Wait + Clock + Copy> SiteControls<R> {
-    /// The stop flag isn't set, and the site's first gate is in force.
+    /// Controls whose stop flag isn't set, and under which the site's first gate is in force.
     pub fn new(alloc: Global, errors: SharedErrors<R>) -> Result<SiteControls<R>, AllocError> {
         let stop = Arc::new(alloc, Stop::new()).map_err(|_| AllocError)?;
         let reloads = Arc::new(alloc, Reloads::new()).map_err(|_| AllocError)?;
@@ -31,7 +32,7 @@ impl<R: Wait + Clock + Copy> SiteControls<R> {
         })
     }
 
-    /// What the thread needs to handle lines, given the name of the gate file.
+    /// What that thread needs to carry out commands, given the name of the gate file.
     pub fn input_context<N: Drop>(
         &self,
         alloc: Global,
@@ -79,7 +80,7 @@ where
     }
 }
 
-/// What a site shares with the thread that reads its standard input, with this standard error.
+/// New controls, whose standard error is written to this end.
 fn new_controls<R, E>(rt: R, alloc: Global, errors: E) -> Result<SiteControls<R>, ServeFault>
 where
     R: Threads + Wait + Clock + Copy + Send + 'static,

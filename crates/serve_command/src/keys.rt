@@ -7,7 +7,7 @@ use key_files::KeyReader;
 use site_address::PeerAddress;
 use site_serve::SessionHooks;
 
-/// The host of a site that does nothing before and after a session, and reads keys with this reader.
+/// The hooks of a site that does nothing before and after a session, and reads keys with this reader.
 #[derive(Drop)]
 pub struct KeyHooks<'a, L: KeyReader> {
     pub reader: &'a L,

@@ -14,7 +14,7 @@ pub fn sites_that_begin_again_have_all()
 {}
 
 /// A law: all that a site with a journal left is in the record that a site begins with by whatever a crash left of that
-/// journal, and in the one that it leaves in turn. `run_taped` promises just this of the runs that `serve` has.
+/// journal, and in the one that it leaves in turn. `run_with_journal` promises just this of the runs that `serve` has.
 pub fn what_a_site_left_is_there_again()
     ensures { (left begun : List Operation) → (later : Option (List Operation)) → RunsAgain left begun later
         → IsPartOf left begun × IfSome later (λ ops. IsPartOf left ops) }

@@ -46,7 +46,7 @@ pub struct MadeSocket<'a> {
 }
 
 /// Listens at the port, the sockets and the hosts that the words name, at a port of this machine that the system
-/// chooses where they name none; then for browsers, where the words say so. The address of each is printed. Where it
+/// chooses where they name none; then for browsers, where the words print_line so. The address of each is printed. Where it
 /// fails the sockets that it has made are removed.
 pub fn listen<'a, R>(
     rt: &R,
@@ -63,14 +63,14 @@ where
             sockets,
         }),
         Err(ended) => {
-            leave(rt, sockets.as_slice());
+            remove_sockets(rt, sockets.as_slice());
             Err(ended)
         }
     }
 }
 
 /// Removes the Unix sockets that a site created. A socket that another site has created at the path meanwhile stays.
-pub fn leave<R: Files>(rt: &R, sockets: &[MadeSocket<'_>]) {
+pub fn remove_sockets<R: Files>(rt: &R, sockets: &[MadeSocket<'_>]) {
     for socket in sockets {
         if FileNumber::at(rt, socket.path) == socket.number {
             let _gone = fs::remove_file(rt, socket.path);
@@ -96,7 +96,7 @@ where
     }
 }
 
-/// Listens for browsers where the words say so, and prints the address.
+/// Listens for browsers where the words print_line so, and prints the address.
 fn page_of<'a, R>(
     rt: &R,
     alloc: Global,
@@ -168,7 +168,7 @@ where
         };
         let port = port_at(&listener)?;
         add(listeners, Listener::Sealed(listener))?;
-        say(rt, place_line(alloc, HostPort { port, ..*at }))?;
+        print_line(rt, place_line(alloc, HostPort { port, ..*at }))?;
     }
     Ok(())
 }
@@ -232,10 +232,10 @@ where
         number: FileNumber::at(rt, path),
     };
     if let Err(ended) = add(sockets, made) {
-        leave(rt, [made].as_slice());
+        remove_sockets(rt, [made].as_slice());
         return Err(ended);
     }
-    say(rt, format!(in alloc; "listening {what}{path}\n"))?;
+    print_line(rt, format!(in alloc; "listening {what}{path}\n"))?;
     Ok(listener)
 }
 
@@ -248,7 +248,7 @@ where
         return Err(Ended::Program(ProgramFault::NoBind));
     };
     let port = port_at(&listener)?;
-    say(rt, format!(in alloc; "listening {what}{port}\n"))?;
+    print_line(rt, format!(in alloc; "listening {what}{port}\n"))?;
     Ok(listener)
 }
 
@@ -261,7 +261,7 @@ fn add<T: Drop>(all: &mut Vec<T>, one: T) -> Result<(), Ended<'static>> {
 }
 
 /// Prints a line.
-fn say<R: Print>(rt: &R, line: Result<String, AllocError>) -> Result<(), Ended<'static>> {
+fn print_line<R: Print>(rt: &R, line: Result<String, AllocError>) -> Result<(), Ended<'static>> {
     let Ok(line) = line else {
         return Err(Ended::Refused(Refusal::Memory));
     };

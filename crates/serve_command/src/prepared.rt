@@ -6,7 +6,7 @@ ghost use Rattle.serve_command.specs.Starts.{IsStartOf};
 use super::command::Ended;
 use super::input_thread::{SiteControls, start_input};
 use super::late_clock::show_late_clock;
-use super::listening::{Listening, leave, listen};
+use super::listening::{Listening, listen, remove_sockets};
 use super::output::PatientOutput;
 use super::start::start_of;
 use byte_ends::{Drain, Ends, Source};
@@ -58,8 +58,8 @@ pub struct Prepared<'a, R, O> {
     pub output: O,
 }
 
-/// Makes all that a site runs with and that may fail: says if its clock is late, finds its start, listens, has its
-/// input heard and makes its output. Where one of these fails the sockets that were made are removed. Refusals: `Site`
+/// Does all that may fail before a site runs: warns if its clock is late, chooses its start, listens, and starts the
+/// threads of its input and output. If one of these fails the sockets that were created are removed. Refusals: `Site`
 /// with `StartUsed`, its start was used; `NoPlace`, the system refused a thread; `NoMemory`; and those of `listen`.
 pub fn prepare<'a, R, I, N, E>(
     rt: R,
@@ -95,7 +95,7 @@ where
     ensures start { IfOk result
         (λ opened. IsStartOf site.entry.serving.site site.entry.serving.start site.entry.replica opened.start) }
 {
-    match beginning_of(rt, alloc, &site) {
+    match start_and_listeners(rt, alloc, &site) {
         Ok((start, listening)) => Ok(Opened {
             site,
             start,
@@ -106,7 +106,7 @@ where
 }
 
 /// The start of a site, and what it listens at.
-fn beginning_of<'a, R>(
+fn start_and_listeners<'a, R>(
     rt: &R,
     alloc: Global,
     site: &Site<'a>,
@@ -127,7 +127,7 @@ where
     }
 }
 
-/// A site that listens, with its input heard and its output made, or without its sockets.
+/// A site that listens, with the threads of its input and output. If they can't be started its sockets are removed.
 fn with_threads<'a, R, I, N, E>(
     rt: R,
     alloc: Global,
@@ -149,13 +149,13 @@ where
             output,
         }),
         Err(fault) => {
-            leave(&rt, opened.listening.sockets.as_slice());
+            remove_sockets(&rt, opened.listening.sockets.as_slice());
             Err(Ended::Site(fault))
         }
     }
 }
 
-/// Has the input of a site heard, and makes its output.
+/// Starts the threads of a site's input and output.
 fn start_threads<R, I, N, E>(
     rt: R,
     alloc: Global,
@@ -180,7 +180,7 @@ where
     }
 }
 
-/// What is heard, with the output that ends when a stop is heard.
+/// The controls, and an output that ends once the site is asked to stop.
 fn with_output<R>(
     rt: R,
     alloc: Global,

@@ -15,7 +15,7 @@ use super::finished::{Finished, finish, unrun};
 use super::input_thread::SiteControls;
 use super::journal::begin;
 use super::keys::KeyHooks;
-use super::listening::{Listening, SiteListeners, leave};
+use super::listening::{Listening, SiteListeners, remove_sockets};
 use super::prepared::{Opened, Prepared, Site, SiteStreams, prepare};
 use super::save::Saves;
 use byte_ends::{Drain, Source};
@@ -38,10 +38,10 @@ use std::sync::{Arc, Wait};
 use std::thread::Threads;
 use std::time::Clock;
 
-/// Runs a site by a journal on a tape that was just opened, and saves what it has left. It begins with what the journal
+/// Runs a site with a journal on a tape that was just opened, and saves what it has left. It begins with what the journal
 /// says and what was loaded, as `begin` does; and whatever a crash leaves of the journal that is given back says all
 /// that it began with and published. Refused where the journal isn't opened; then nothing is run or saved.
-pub fn run_taped<R, I, N, E, L, S, T>(
+pub fn run_with_journal<R, I, N, E, L, S, T>(
     rt: R,
     alloc: Global,
     site: Site<'_>,
@@ -67,14 +67,17 @@ where
     ensures refused { OnErr result (snapshot_file.new ≡ snapshot_file.old) }
 {
     let mut streams = streams;
-    match begun_on(rt, alloc, tape, site, &mut streams.errors) {
-        Ok((journal, site)) => Ok(run_kept(rt, alloc, site, streams, keys, snapshot_file, journal)),
+    match begin_on_tape(rt, alloc, tape, site, &mut streams.errors) {
+        Ok((journal, site)) => {
+            let finished = run_with_keeper(rt, alloc, site, streams, keys, snapshot_file, journal);
+            Ok(finished)
+        }
         Err(ended) => Err(ended),
     }
 }
 
 /// A site that begins with what a journal says on a tape and with what was loaded, as `begin` does.
-fn begun_on<'a, R: Threads + Drop, T: Tape + Drop, E: Drain>(
+fn begin_on_tape<'a, R: Threads + Drop, T: Tape + Drop, E: Drain>(
     rt: R,
     alloc: Global,
     tape: T,
@@ -113,7 +116,7 @@ fn begun_on<'a, R: Threads + Drop, T: Tape + Drop, E: Drain>(
 /// Runs a site over what keeps its operations, and saves what it has left. Whatever that had at first survives in what
 /// is given back, with all that came to the record; and what is left is the first record with just these. A site whose
 /// start, listeners, input or output can't be had isn't run; then nothing is saved.
-pub fn run_kept<R, I, N, E, L, S, K>(
+pub fn run_with_keeper<R, I, N, E, L, S, K>(
     rt: R,
     alloc: Global,
     site: Site<'_>,
@@ -191,7 +194,7 @@ where
         &rt, alloc, listeners, setup, &stop, output, errors, &hooks, keeper,
     );
     let finished = finish(snapshot_file, ended_site);
-    leave(&rt, sockets.as_slice());
+    remove_sockets(&rt, sockets.as_slice());
     if let Ok(last) = last {
         last.finish();
     }

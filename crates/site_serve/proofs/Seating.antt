@@ -3,7 +3,7 @@ use Rattle.std.proofs.Common.{◌≡◌, ◌≢◌, ◌<◌, ◌≤◌, true, lt
 use Rattle.std.proofs.Common.{arith, subst}
 use Rattle.site_serve.specs.Answered.{GoesOnWith, IsPlaceAfter}
 use Rattle.site_serve.specs.declared.jobs.Work.{Work}
-use Rattle.site_serve.specs.declared.jobs.Work.TheVariants.{Admitted, Barred, Entered, KeyLookedAt, Left, Looked}
+use Rattle.site_serve.specs.declared.jobs.Work.TheVariants.{Admitted, Rejected, Entered, KeyLookedAt, Left, Looked}
 use Rattle.site_serve.specs.declared.session.Session.{Session}
 use Rattle.std.proofs.lemmas.Bool.{ltb-true}
 use Rattle.std.proofs.lemmas.List.{get_or-set_other, get_or-set_same, length-set}
@@ -72,8 +72,8 @@ seat_after (Looked text answered) before after last stays goes is =
     (last, refl, listed (Looked text answered) before after last is goes)
 seat_after (Admitted admitted) before after last stays goes is =
     (last, refl, listed (Admitted admitted) before after last is goes)
-seat_after (Barred answer) before after last stays goes is =
-    (last, refl, listed (Barred answer) before after last is goes)
+seat_after (Rejected answer) before after last stays goes is =
+    (last, refl, listed (Rejected answer) before after last is goes)
 seat_after (KeyLookedAt role) before after last stays goes is =
     (last, refl, listed (KeyLookedAt role) before after last is goes)
 seat_after Entered before after last stays goes is = (last, refl, listed Entered before after last is goes)

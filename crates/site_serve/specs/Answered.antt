@@ -16,7 +16,7 @@ use Rattle.site_serve.specs.declared.channel.ChannelMode.TheVariants.{Sealed, Sh
 use Rattle.site_serve.specs.declared.requests.Waiter.{Waiter}
 use Rattle.site_serve.specs.SitePorts.{port_fault_of}
 use Rattle.site_serve.specs.declared.jobs.Work.{Work}
-use Rattle.site_serve.specs.declared.jobs.Work.TheVariants.{Admitted, Barred, Entered, KeyLookedAt, Left, Looked}
+use Rattle.site_serve.specs.declared.jobs.Work.TheVariants.{Admitted, Rejected, Entered, KeyLookedAt, Left, Looked}
 use Rattle.site_serve.specs.declared.session.Session.{Session}
 use Rattle.site_serve.specs.declared.session_fault.SessionFault.{SessionFault}
 use Rattle.site_serve.specs.declared.session_fault.SessionFault.TheVariants.{Line}
@@ -80,15 +80,15 @@ HasRole role old new =
 abbrev pub GoesOnWith : {J : Type 0} → Work → Session J → Session J → Type 0
 GoesOnWith (Looked text answered) old new = IsSameAccess old new × TakesText text.items answered old new
 GoesOnWith (Admitted admitted) old new = IsAdmitted admitted.role admitted.wire old new
-GoesOnWith (Barred answer) old new = IsRejected old new
+GoesOnWith (Rejected answer) old new = IsRejected old new
 GoesOnWith (KeyLookedAt role) old new = HasRole role old new
 GoesOnWith Entered old new = IsSameAccess old new × (new.outbox ≡ old.outbox)
 GoesOnWith Left old new = IsSameAccess old new × (new.outbox ≡ old.outbox)
 
 -- its place afterwards: empty if it has left, else it has the session after the reply
 abbrev pub IsPlaceAfter : {J : Type 0} → Work → Session J → Option (Session J) → Type 0
-IsPlaceAfter Left session seat = seat ≡ None
-IsPlaceAfter work session seat = (after : _) × (seat ≡ Some after) × GoesOnWith work session after
+IsPlaceAfter Left session slot = slot ≡ None
+IsPlaceAfter work session slot = (after : _) × (slot ≡ Some after) × GoesOnWith work session after
 
 module _ {S : Type 0} (number_of : S → ℕ) (outbox_of : S → List ℕ) where
   -- the session with this number at this place is answered, if it is still there; no other session is

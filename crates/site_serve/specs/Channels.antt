@@ -22,7 +22,7 @@ seal_result (Ok done) = Ok done
 seal_result (Err fault) = Err (seal_fault fault)
 
 -- what came comes to what was read of the session: as it is, or the texts of the lines that are sealed in it, up to one
--- that isn't; nothing before the connection was let in, after a line that isn't sealed, or once it is shut
+-- that isn't; nothing before the connection was admitted, after a line that isn't sealed, or once it is shut
 abbrev pub TakesCame : ChannelMode → List ℕ → List ℕ → List ℕ → Result (Unit {0}) SessionFault → ChannelMode → Type 0
 TakesCame Plain came old new (Ok done) after = (new ≡ old ++ came) × (after ≡ Plain)
 TakesCame Plain came old new (Err fault) after = (new ≡ old) × (after ≡ Plain)

@@ -35,7 +35,7 @@ impl<T: KeyReader> Admission<'_, T> {
             Ok(None) => {}
             Err(fault) => errors.report_key_fault(rt, alloc, fault, self.keys.unwrap_or("")),
         }
-        Work::Barred(refusal_line(alloc).unwrap_or(Vec::new(alloc)))
+        Work::Rejected(refusal_line(alloc).unwrap_or(Vec::new(alloc)))
     }
 
     /// The present role of the key with an ID; `None` if the file no longer has that key, or can't be read, which is

@@ -20,7 +20,7 @@ pub struct EndedSite<K> {
     pub served: Result<Served, ServeFault>,
 }
 
-/// How the threads of a site left it.
+/// How a site ran to its end.
 #[derive(Drop)]
 pub struct RunOutcome {
     /// Whether all that it was to print was written.
@@ -41,7 +41,7 @@ pub fn failed_site<K: Keeps>(keeper: K, fault: ServeFault) -> EndedSite<K>
     }
 }
 
-/// What a site leaves, from how its threads ended and the record that it published last.
+/// What a site leaves, from its outcome and the record that it published last.
 pub fn served_of(
     outcome: Result<RunOutcome, ServeFault>,
     shown: Arc<Replica>,

@@ -17,7 +17,7 @@ pub struct GateFollower<'a> {
 }
 
 impl<'a> GateFollower<'a> {
-    /// A ruling that begins with a gate in force, and follows these reloads.
+    /// A follower that begins with a gate in force, and follows these reloads.
     pub fn new(reloads: &'a Reloads, in_force: InForce) -> GateFollower<'a>
         ensures { followed_gate result ≡ gate_in in_force }
     {

@@ -41,10 +41,10 @@ pub(super) struct Job<J: Naming> {
 pub(super) enum Work {
     /// The session has begun.
     Entered,
-    /// It is let in.
+    /// It is admitted.
     Admitted(Admitted),
     /// It isn't admitted, and gets this answer.
-    Barred(Vec<u8>),
+    Rejected(Vec<u8>),
     /// The present role of its key; `None` if the site has no such key any more.
     KeyLookedAt(Option<Role>),
     /// The answer to a look, and whether the session goes on.

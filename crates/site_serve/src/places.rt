@@ -193,7 +193,7 @@ impl<J: Naming> Places<J> {
         bytes
     }
 
-    /// Lets the look of a session begin that waited for room.
+    /// Lets a session go on whose look waited for room.
     pub(super) fn unthrottle(&mut self, place: usize) {
         if let Some(session) = self.session(place) {
             if session.unthrottle() {
@@ -243,7 +243,7 @@ fn empty_places<J: Naming>(
     Ok(sessions)
 }
 
-/// Has the session of a number at its place go on with what a worker has done for it, unless it has gone. Whether it
+/// Applies a worker's result to the session of a number at its place, unless that has gone. Returns whether the session
 /// leaves its place.
 fn leaves_with<J: Naming>(
     slot: &mut Option<Session<J>>,
@@ -280,14 +280,14 @@ fn has_left(work: &Work) -> bool
     matches!(work, Work::Left)
 }
 
-/// Has a session go on with what a worker has done for it.
+/// Applies a worker's result to a session.
 fn apply_work<J: Naming>(session: &mut Session<J>, work: Work, now: Duration)
     ensures { GoesOnWith work session.old session.new }
 {
     match work {
         Work::Entered => session.resume(),
         Work::Admitted(admitted) => session.admit(admitted, now),
-        Work::Barred(answer) => session.reject(answer),
+        Work::Rejected(answer) => session.reject(answer),
         Work::KeyLookedAt(role) => session.take_role(role, now),
         Work::Looked(text, answered) => session.take_text(text, answered),
         Work::Left => {}

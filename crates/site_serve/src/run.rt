@@ -215,7 +215,7 @@ struct PreparedSite<'a, E: Drain, T: SessionHooks> {
     replica: Replica,
 }
 
-/// Makes what a site is opened with. Refusals: `NoPlace`, the system refused a poll or a listener; `NoMemory`.
+/// Prepares a site. Refusals: `NoPlace`, the system refused a poll or a listener; `NoMemory`.
 fn prepare<'a, R, E, T>(
     rt: &R,
     alloc: Global,
@@ -245,7 +245,7 @@ where
     }
 }
 
-/// What a site is opened with, of these parts.
+/// A prepared site, of these parts.
 fn prepared_with<'a, E: Drain, T: SessionHooks>(
     alloc: Global,
     resources: Resources,
@@ -306,7 +306,7 @@ fn prepared_with<'a, E: Drain, T: SessionHooks>(
     }
 }
 
-/// The parts of a site that are made before it is opened, which may be refused.
+/// What a site acquires before it is opened, which may be refused.
 #[derive(Drop)]
 struct Resources {
     poll: Poll,
@@ -316,7 +316,8 @@ struct Resources {
     first: InForce,
 }
 
-/// What is made for a site that listens there, with this gate, so many peers and so many threads that pull from them.
+/// Acquires what a site needs that listens there, with this gate, so many peers, and so many threads that pull from
+/// them.
 fn acquire<R: Net + Clock>(
     rt: &R,
     alloc: Global,
@@ -342,7 +343,7 @@ fn acquire<R: Net + Clock>(
     }
 }
 
-/// The shares of the peers, what is noted of them, and the gate in force.
+/// The shares of the peers, the metrics, and the gate in force.
 fn shared_parts<R: Clock>(
     rt: &R,
     alloc: Global,
@@ -358,7 +359,7 @@ fn shared_parts<R: Clock>(
     Ok((shares, metrics, first))
 }
 
-/// Opens a site that is ready, and runs it.
+/// Opens a prepared site, and runs it.
 fn run_prepared<R, W, E, T, K>(
     rt: &R,
     prepared: PreparedSite<'_, E, T>,
@@ -502,7 +503,7 @@ where
     }
 }
 
-/// How a site ends of which this is left, and what remains of its ledger.
+/// The ended site with this outcome, and what remains of its ledger.
 fn end_site<J: Opening, K: Keeps>(
     outcome: Result<RunOutcome, ServeFault>,
     remains: Remains<K>,
@@ -680,7 +681,8 @@ where
     outcome_of(ended, context.is_start_taken.load(Ordering::SeqCst))
 }
 
-/// How the threads of a site left it, where the last publish showed all that it took in, also what could only be held.
+/// The outcome of a site whose threads ended so. It is a fault if the journal failed, a thread was refused, the last
+/// look failed, or memory was refused for the last publish, which shows all that was held.
 fn outcome_of<J: Naming>(
     ended: EndedThreads<J>,
     is_start_taken: bool,

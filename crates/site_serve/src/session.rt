@@ -48,7 +48,7 @@ const KEY_NANOS: u128 = 1_000_000_000;
 
 /// How many times as long as another one a session may be silent that has had a body taken in, or refused: by default a
 /// day.
-const FED: u32 = 288;
+const FEEDER_FACTOR: u32 = 288;
 
 /// How many lines a session may have.
 const LINES: u64 = 1_000_000;
@@ -117,8 +117,8 @@ pub(super) struct Session<J: Naming> {
 }
 
 impl<J: Naming> Session<J> {
-    /// A session of which nothing was read, and which waits until it has begun; where its connection has to be let in
-    /// by a key, its lines are sealed.
+    /// A session of which nothing was read, and which waits until a worker has begun it. If its connection has to
+    /// authenticate by a key, its channel is locked until then.
     pub(super) fn new(
         alloc: Global,
         number: u64,
@@ -295,7 +295,7 @@ impl<J: Naming> Session<J> {
         self.flow = Flow::AtWorker;
     }
 
-    /// Waits until others have read their answers.
+    /// Waits until other sessions have read their answers.
     pub(super) fn throttle(&mut self)
         ensures inbox { self.new.inbox ≡ self.old.inbox }
         ensures kept { (self.new.outbox ≡ self.old.outbox) × (self.new.waiting ≡ self.old.waiting) }
@@ -304,7 +304,7 @@ impl<J: Naming> Session<J> {
         self.flow = Flow::Throttled;
     }
 
-    /// Ends the wait for others to read their answers. Returns whether it waited.
+    /// Ends the wait for other sessions to read their answers. Returns whether it waited.
     pub(super) fn unthrottle(&mut self) -> bool
         ensures inbox { self.new.inbox ≡ self.old.inbox }
         ensures kept { (self.new.outbox ≡ self.old.outbox) × (self.new.waiting ≡ self.old.waiting) }
@@ -391,7 +391,7 @@ impl<J: Naming> Session<J> {
         }
     }
 
-    /// Ends so once all that waits is written, unless it was to end before.
+    /// Ends with this result once all that waits is written, unless it was to end before.
     #[tactic(auto, using(crate::proofs::Rights::ends_so))]
     fn end_with(&mut self, ending: Result<(), SessionFault>)
         ensures inbox { self.new.inbox ≡ self.old.inbox }
@@ -404,7 +404,7 @@ impl<J: Naming> Session<J> {
         self.ending = self.ending.or(Some(ending));
     }
 
-    /// Notes whether the session goes on after an answer.
+    /// Goes on after an answer, or ends, by the result of the answer.
     fn continue_or_end(&mut self, answered: Result<bool, LineFault>)
         ensures inbox { self.new.inbox ≡ self.old.inbox }
         ensures receipt { self.new.receipt ≡ self.old.receipt }
@@ -419,7 +419,7 @@ impl<J: Naming> Session<J> {
         }
     }
 
-    /// Reads what is there, and says whether something came.
+    /// Reads what is there. Returns whether something came.
     #[tactic(auto, using(crate::proofs::Rights::reads_nothing))]
     pub(super) fn read(&mut self, buffer: &mut [u8], now: Duration) -> bool
         ensures kept { (self.new.outbox ≡ self.old.outbox) × (self.new.waiting ≡ self.old.waiting) }
@@ -626,7 +626,7 @@ impl<J: Naming> Session<J> {
         if self.flow != Flow::Open || self.waiting > 0 || self.ending.is_some() {
             return;
         }
-        let times = if self.has_taken { FED } else { 1 };
+        let times = if self.has_taken { FEEDER_FACTOR } else { 1 };
         let idle = patience.idle.map(|idle| idle.saturating_mul(times));
         let patience = Patience { idle, ..patience };
         let waited = now.saturating_sub(self.since);

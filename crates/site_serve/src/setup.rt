@@ -51,8 +51,8 @@ pub struct Setup<'a> {
     pub start: u32,
     /// The addresses of its peers.
     pub peers: Vec<PeerAddress<'a>>,
-    /// The name of the file of keys that connections are sealed by, if one is named. Without one nobody is let in at a
-    /// port whose connections are sealed, and no peer on another machine is reached.
+    /// The name of the file of keys that connections are sealed by, if one is named. Without one no connection is
+    /// admitted at a port whose connections are sealed, and no peer on another machine is reached.
     pub keys: Option<&'a str>,
     /// The numbers of the sites whose operations it takes from its peers, beside its own; an empty list means all
     /// sites.
@@ -127,12 +127,12 @@ impl ServeFault {
     }
 }
 
-/// What a site asks of its host: it is called before and after each session, by the worker that answers it, and reads
-/// the keys by which connections are sealed. Sessions are numbered from 1, as they are accepted.
+/// What a site calls of the program that it runs in: a worker calls these hooks before and after each session, and they
+/// may wait; connections are authenticated by the keys that it reads. Sessions are numbered from 1, as they are accepted.
 pub trait SessionHooks: KeyReader {
-    /// The session is answered from now on.
+    /// Before a session: its lines are read once this has returned.
     fn before(&self, session: u64);
 
-    /// The session has ended. Of one that the end of the site cut off it may not be said.
+    /// After a session. It may not be called for a session that the end of the site cut off.
     fn after(&self, session: u64);
 }

@@ -92,7 +92,7 @@ fn shared_gates(
 }
 
 impl<E: Drain, T: SessionHooks> SiteContext<'_, E, T> {
-    /// A ruling that begins with this gate.
+    /// A follower that begins with this gate.
     pub(super) fn gate_follower(&self, first: InForce) -> GateFollower<'_>
         ensures { followed_gate result ≡ gate_in first }
     {

@@ -108,10 +108,10 @@ where
     )
 }
 
-/// The threads that were begun beside the loop.
+/// The threads that were started beside the loop.
 #[derive(Drop)]
 struct StartedThreads {
-    /// That which prints the reports.
+    /// The one that prints the reports.
     reports: Option<JoinHandle<Printed>>,
     /// Wakes the thread that serves browsers.
     page_waker: Option<Waker>,
@@ -119,7 +119,7 @@ struct StartedThreads {
     is_refused: bool,
 }
 
-/// Begins the threads beside the loop.
+/// Starts the threads beside the loop.
 fn start_all<'s, 'e, J, R, W, E, T>(
     scope: &Scope<'s, &'e ()>,
     rt: &'s R,
@@ -165,7 +165,7 @@ where
     }
 }
 
-/// Begins the thread that prints reports.
+/// Starts the thread that prints reports. None if the system refused it.
 fn start_reports<'s, 'e, J, R, W, E, T>(
     scope: &Scope<'s, &'e ()>,
     rt: &'s R,
@@ -189,7 +189,7 @@ where
     }
 }
 
-/// Has a thread show the site to browsers, where it listens for them. False where the system refused it.
+/// Starts the thread that serves browsers, if the site listens for them. Returns false if the system refused it.
 fn start_page<'s, 'e, J, R, E, T>(
     scope: &Scope<'s, &'e ()>,
     rt: &'s R,
@@ -212,7 +212,7 @@ where
     }
 }
 
-/// Has a thread pull from each share of the peers. False where the system refused one.
+/// Starts a thread for each share of the peers, which pulls from them. Returns false if the system refused one.
 fn start_pulls<'s, 'e, J, R, E, T>(
     scope: &Scope<'s, &'e ()>,
     rt: &'s R,
@@ -235,7 +235,7 @@ where
     are_started
 }
 
-/// Begins a worker thread for each gate. False if the system refused one.
+/// Starts a worker thread for each gate. Returns false if the system refused one.
 fn start_workers<'s, 'e, J, R, E, T>(
     scope: &Scope<'s, &'e ()>,
     rt: &'s R,
@@ -286,7 +286,7 @@ where
     end_all(rt, context, news, started, flushed)
 }
 
-/// Has the threads beside the loop end, and waits for that which prints the reports.
+/// Has the threads beside the loop end, and waits for the one that prints the reports.
 fn end_all<J, R, E, T>(
     rt: &R,
     context: &SiteContext<'_, E, T>,
@@ -315,7 +315,7 @@ where
     }
 }
 
-/// Asks for the stop where a thread was refused.
+/// Asks the site to stop if a thread was refused.
 fn stop_where<R: Wait, E: Drain, T: SessionHooks>(
     rt: &R,
     context: &SiteContext<'_, E, T>,
@@ -341,7 +341,7 @@ fn joined<R: Threads + Wait>(rt: &R, reports: Option<JoinHandle<Printed>>) -> Op
     }
 }
 
-/// Prints what the site has to say of its verdicts.
+/// Prints the reports of the site.
 fn run_reports<R: Wait + Clock, W: Drain + Drop, E: Drain, T: SessionHooks, J: Naming>(
     rt: &R,
     context: &SiteContext<'_, E, T>,
@@ -375,7 +375,7 @@ fn page_parts(page: Option<PageSetup>) -> (Option<(PageEndpoint, Vec<String>)>, 
     }
 }
 
-/// Shows the site to browsers.
+/// Serves the pages of the site.
 fn run_pages<R, E, T, J>(
     rt: &R,
     context: &SiteContext<'_, E, T>,
@@ -410,7 +410,7 @@ where
     );
 }
 
-/// Pulls from its share of the peers. It notes whether another process takes in as this site.
+/// Pulls from a share of the peers, and notes whether another process takes in as this site.
 fn run_puller<R, E, T, J>(
     rt: &R,
     context: &SiteContext<'_, E, T>,
@@ -430,7 +430,7 @@ where
     }
 }
 
-/// Pulls through a port from its share of the peers. Whether another process takes in as this site.
+/// Pulls from a share of the peers through a port. Returns whether another process takes in as this site.
 fn is_start_taken_after<R, E, T, J>(
     rt: &R,
     context: &SiteContext<'_, E, T>,
@@ -500,7 +500,7 @@ where
     do_jobs(&worker_context, context.gate_follower(first), worker, waker);
 }
 
-/// Brings the last publish, and has nothing new come any more.
+/// Brings the news of the last publish, and then closes the news.
 fn close<R: Wait, J: Naming>(rt: &R, news: &News<J>, flushed: &Result<Published<J>, NotKept>) {
     if let Ok(Ok(receipt)) = flushed {
         news.bring(rt, receipt);
