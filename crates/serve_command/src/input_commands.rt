@@ -21,7 +21,7 @@ use std::thread::Threads;
 use std::time::Clock;
 
 /// The maximum length of a line, in bytes; a longer one is skipped.
-const LINE_LIMIT: usize = 1024;
+const COMMAND_LIMIT: usize = 1024;
 
 /// A command on standard input.
 #[derive(Clone, Copy, Debug, PartialEq, Eq)]
@@ -49,7 +49,7 @@ pub struct InputContext<R, N> {
 
 /// The reader of the input's lines.
 pub fn lines_of_input(alloc: Global) -> Result<LineReader, AllocError> {
-    LineReader::new(alloc, LINE_LIMIT).map_err(|_| AllocError)
+    LineReader::new(alloc, COMMAND_LIMIT).map_err(|_| AllocError)
 }
 
 /// Starts a thread that handles the lines of the input: at a line `reload` it reads the gate file again, and at a line

@@ -4,7 +4,7 @@ use super::channel::Credential;
 use super::errors::Errors;
 use super::jobs::Work;
 use byte_ends::Drain;
-use key_file::{Key, KeyFault, Role};
+use key_file::{Key, KeyFault};
 use key_files::KeyReader;
 use sealed_line::KeyId;
 use sealed_link::{Admitted, admit, refusal_line};

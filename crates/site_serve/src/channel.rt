@@ -1,6 +1,7 @@
 //! The channel between the bytes of a connection and the lines of its session: plain or sealed.
 
-ghost use Rattle.std.specs.Prelude.{◌≡◌, ◌≤◌, ◌++◌, [], Err, MatchResult, Ok, OnOk, length};
+ghost use Rattle.std.specs.Prelude.{◌≡◌, ◌≤◌, ◌++◌, [], Err, IfOk, MatchResult, Ok, OnErr, OnOk, length};
+ghost use Rattle.std.specs.Io.KnownBytes.{WriteAppends};
 ghost use Rattle.gossip_line.specs.declared.fault.LineFault.TheVariants.{NoMemory};
 ghost use Rattle.site_serve.specs.Channels.{IsSent, SealsMore, TakesCame, outgoing_of, seal_fault, seal_result};
 ghost use Rattle.site_serve.specs.Channels.{sends_of};
@@ -15,6 +16,8 @@ use memchr::memchr;
 use sealed_line::Greeting;
 use sealed_link::{Wire, WireFault};
 use std::alloc::{AllocError, Global};
+use std::io;
+use std::io::Write;
 
 /// How many bytes the first line of a sealed connection may have.
 const GREETING_LIMIT: usize = 256;
@@ -133,8 +136,29 @@ impl Channel {
         }
     }
 
+    /// Writes the bytes to send next, as many as the writer takes, and notes that these were sent. Returns how many.
+    pub(super) fn send<W: Write>(
+        &mut self,
+        outbox: &mut Outbox,
+        writer: &mut W,
+    ) -> io::Result<usize>
+        ensures written { WriteAppends (W.contents writer.old) (W.contents writer.new) result
+            (outgoing_of self.old.first self.old.mode outbox.old) }
+        ensures sent { IfOk result
+            (λ count. IsSent count self.old.first self.old.mode outbox.old self.new.first self.new.mode outbox.new) }
+        ensures failed { OnErr result ((self.new ≡ self.old) × (outbox.new ≡ outbox.old)) }
+    {
+        match writer.write(self.next(outbox)) {
+            Ok(count) => {
+                self.note_sent(outbox, count);
+                Ok(count)
+            }
+            Err(error) => Err(error),
+        }
+    }
+
     /// Notes that so many bytes of what is sent next were sent.
-    pub(super) fn note_sent(&mut self, outbox: &mut Outbox, count: usize)
+    fn note_sent(&mut self, outbox: &mut Outbox, count: usize)
         requires { count ≤ length (outgoing_of self.old.first self.old.mode outbox.old) }
         ensures { IsSent count self.old.first self.old.mode outbox.old self.new.first self.new.mode outbox.new }
     {

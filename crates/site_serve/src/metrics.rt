@@ -233,7 +233,7 @@ fn passed_since(moment_ms: u64, now: Duration) -> Option<Duration> {
     Some(now.saturating_sub(Duration::from_millis(moment_ms)))
 }
 
-/// A duration in whole milliseconds, as far as they can be counted.
-fn millis(duration: Duration) -> u64 {
+/// A duration in whole milliseconds, at most 2^64 - 2.
+pub fn millis(duration: Duration) -> u64 {
     u64::try_from(duration.as_millis()).unwrap_or(NEVER - 1)
 }

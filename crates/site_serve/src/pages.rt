@@ -1,18 +1,15 @@
 //! Shows a site to browsers, through a window of its own.
 
-ghost use Rattle.std.specs.Prelude.{◌≡◌, IfOk, IfSome, OnOk};
+ghost use Rattle.std.specs.Prelude.{◌≡◌, IfOk, IfSome};
 ghost use Rattle.std.specs.Option.{ForSome};
-ghost use Rattle.ready_core.specs.Verdicts.{AreVerdicts, items_out};
 ghost use Rattle.site_serve.specs.InForce.{followed_gate};
 ghost use Rattle.site_serve.specs.Pages.{IsPageOf, ShowsMoment};
 ghost use Rattle.site_shared.specs.Accounts.{GoesOn};
-ghost use Rattle.site_shared.specs.Publishes.{arrive};
-ghost use Rattle.state_core.specs.State.{state_of};
 ghost use Rattle.page_routes.specs.declared.page.Status.TheVariants.{Unavailable};
 
 use super::gate_follower::GateFollower;
 use super::kept_verdicts::up_to_date_watch;
-use super::metrics::{JournalMetrics, Metrics, PeerMetrics, PullOutcome};
+use super::metrics::{JournalMetrics, Metrics, PeerMetrics, PullOutcome, millis};
 use super::opening::{OwnWatch, OwnWindow};
 use gate_rules::Gate;
 use page_routes::{Kind, Page, Route, Status};
@@ -346,9 +343,4 @@ fn since(passed: Option<Duration>) -> Option<u64> {
         Some(passed) => Some(millis(passed)),
         None => None,
     }
-}
-
-/// A duration in whole milliseconds, as far as they can be counted.
-fn millis(duration: Duration) -> u64 {
-    u64::try_from(duration.as_millis()).unwrap_or(u64::MAX)
 }

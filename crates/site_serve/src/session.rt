@@ -1,20 +1,19 @@
 //! A session of a site, as a value: what was read of it, and what waits to be written.
 
-ghost use Rattle.std.specs.Prelude.{◌≡◌, ◌⊎◌, ◌↔◌, ◌<◌, ◌≤◌, ◌+◌, ◌-◌, ◌++◌, [], Bool, Err, IfErr, IfOk, IfSome, IsTrue, MatchBool, MatchOption, None, Ok, OnOk, Result, Some, drop, if◌then◌else◌, is_some, length, nat_eq, not, true};
+ghost use Rattle.std.specs.Prelude.{◌≡◌, ◌⊎◌, ◌↔◌, ◌<◌, ◌+◌, ◌-◌, [], Bool, Err, IfErr, IfOk, IsTrue, MatchBool, None, Ok, OnOk, Result, Some, drop, if◌then◌else◌, is_some, length, nat_eq, not, true};
 ghost use Rattle.key_file.specs.declared.key.Role.TheVariants.{Feed};
 ghost use Rattle.std.specs.Arc.{arc_value};
 ghost use Rattle.std.specs.Duration.{as_nanos};
 ghost use Rattle.std.specs.Option.{option_map, option_or};
 ghost use Rattle.gossip_line.specs.Steps.{answer_of};
-ghost use Rattle.gossip_line.specs.Texts.{answer_text, long_line, next_of, refusal_line, reply_text, stamp_line};
+ghost use Rattle.gossip_line.specs.Texts.{answer_text, long_line, next_of, refusal_line, reply_text};
 ghost use Rattle.gossip_line.specs.declared.fault.LineFault.{LineFault};
 ghost use Rattle.site_port.specs.Ports.{reply_by, stamped};
 ghost use Rattle.site_serve.specs.Answered.{HasRole, IsAdmitted, IsRejected, IsSealedBy, SaysFault, SaysStamp, TakesText, ending_after};
-ghost use Rattle.site_serve.specs.Channels.{IsSent, ReadsOn, outgoing_of};
+ghost use Rattle.site_serve.specs.Channels.{IsSent, ReadsOn};
 ghost use Rattle.site_serve.specs.LookedAtKeys.{due_key, key_by};
 ghost use Rattle.site_serve.specs.Outboxes.{Adds, AddsEach};
 ghost use Rattle.site_serve.specs.Rights.{HasHadLine, IsSameAccess, IsSameRight, OnlySends};
-ghost use Rattle.site_serve.specs.SitePorts.{port_fault_of};
 ghost use Rattle.site_serve.specs.declared.channel.ChannelMode.TheVariants.{Locked, Plain, Shut};
 ghost use Rattle.site_serve.specs.declared.session_fault.SessionFault.TheVariants.{Line};
 
@@ -35,7 +34,8 @@ use site_net::{Awaited, Patience};
 use site_port::PortFault;
 use site_shared::{BrandedReceipt, Naming};
 use std::alloc::{AllocError, Global};
-use std::io::{ErrorKind, Read, Write};
+use std::io;
+use std::io::{ErrorKind, Read};
 use std::net::Shutdown;
 use std::sync::Arc;
 use std::time::Duration;
@@ -520,15 +520,14 @@ impl<J: Naming> Session<J> {
         ensures only { OnlySends self.old self.new }
     {
         self.seal_more();
-        let text = self.channel.next(&self.outbox);
-        if text.is_empty() {
+        if self.channel.next(&self.outbox).is_empty() {
             self.drop_rest();
             self.stuck = now;
             return false;
         }
-        match self.stream.write(text) {
-            Ok(count) => {
-                self.note_sent(count, now);
+        match self.send_next() {
+            Ok(_count) => {
+                self.stuck = now;
                 true
             }
             Err(error) => {
@@ -576,16 +575,14 @@ impl<J: Naming> Session<J> {
         }
     }
 
-    /// Notes that so many bytes of what waits were written.
-    #[tactic(auto, using(crate::proofs::Rights::sent_rest))]
-    fn note_sent(&mut self, count: usize, now: Duration)
-        requires { count ≤ length (outgoing_of self.old.channel.first self.old.channel.mode self.old.outbox) }
-        ensures sent { IsSent count self.old.channel.first self.old.channel.mode self.old.outbox self.new.channel.first
-            self.new.channel.mode self.new.outbox }
+    /// Writes the bytes to send next, as many as the connection takes. Returns how many.
+    #[tactic(auto, using(crate::proofs::Rights::rest_same, crate::proofs::Rights::sent_rest))]
+    fn send_next(&mut self) -> io::Result<usize>
+        ensures sent { IfOk result (λ count. IsSent count self.old.channel.first self.old.channel.mode self.old.outbox
+            self.new.channel.first self.new.channel.mode self.new.outbox) }
         ensures only { OnlySends self.old self.new }
     {
-        self.channel.note_sent(&mut self.outbox, count);
-        self.stuck = now;
+        self.channel.send(&mut self.outbox, &mut self.stream)
     }
 
     /// Ends with a fault, and nothing more is written.
