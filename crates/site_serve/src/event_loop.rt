@@ -442,7 +442,7 @@ pub(super) struct Site<'a, E: Drain, J: Naming> {
 }
 
 /// A turn of the loop. Nobody waits after it.
-fn turn<R: Wait + Clock, J: Opening, K: Keeps, E: Drain>(
+fn take_turn<R: Wait + Clock, J: Opening, K: Keeps, E: Drain>(
     rt: &R,
     site: &Site<'_, E, J>,
     event_loop: &mut EventLoop,
@@ -525,7 +525,7 @@ fn take_turns<R: Wait + Clock, J: Opening, K: Keeps, E: Drain>(
     for _ in rt.forever() {
         event_loop.wait(places);
         event_loop.note_turn(rt, site.metrics);
-        turn(rt, site, event_loop, places, ends, group)?;
+        take_turn(rt, site, event_loop, places, ends, group)?;
         if event_loop.is_over(rt, places, site.stop) {
             return Ok(());
         }

@@ -143,6 +143,22 @@ struct Limits {
     connections: usize,
 }
 
+/// The limits of a site with this setup: at least one worker, one thread that pulls, and one connection, and no more
+/// threads than there are windows.
+fn limits_of(setup: &Setup<'_>) -> Limits
+    ensures limits { (result.workers ≡ min (max setup.now.workers 1) 6)
+        × (result.connections ≡ min (max setup.now.connections 1) 65_535) × (result.sessions ≡ setup.now.sessions) }
+    ensures windows { result.workers + 2 + result.pullers ≤ 64 }
+{
+    let workers = setup.workers.max(1).min(MOST_WORKERS);
+    Limits {
+        workers,
+        pullers: setup.peers.len().max(1).min(WINDOWS - 2 - workers),
+        sessions: setup.sessions,
+        connections: setup.connections.max(1).min(MOST_CONNECTIONS),
+    }
+}
+
 /// What a site is run with beside its gate, by who needs it.
 #[derive(Drop)]
 struct SetupParts<'a> {
@@ -163,6 +179,7 @@ fn split_setup<'a>(setup: Setup<'a>) -> (Gate, SetupParts<'a>)
         × (result.1.limits.connections ≡ min (max setup.entry.connections 1) 65_535) }
     ensures windows { result.1.limits.workers + 2 + result.1.limits.pullers ≤ 64 }
 {
+    let limits = limits_of(&setup);
     let Setup {
         gate,
         reloads,
@@ -172,27 +189,18 @@ fn split_setup<'a>(setup: Setup<'a>) -> (Gate, SetupParts<'a>)
         peers,
         keys,
         sites,
-        workers,
         pause_ms,
-        sessions,
         idle_ms,
-        connections,
         prints,
         page,
+        ..
     } = setup;
-    let workers = workers.max(1).min(MOST_WORKERS);
-    let limits = Limits {
-        workers,
-        pullers: peers.len().max(1).min(WINDOWS - 2 - workers),
-        sessions,
-        connections: connections.max(1).min(MOST_CONNECTIONS),
-    };
     let options = SiteOptions {
         reloads,
         prints,
         guard: Guard { own: site, sites },
         start,
-        workers,
+        workers: limits.workers,
         peers,
         keys,
         pause: Duration::from_millis(pause_ms),
