@@ -1,8 +1,12 @@
 //! A directed graph over numbered nodes, and what is found in it.
 
-ghost use Rattle.std.specs.Prelude.{◌≡◌, ◌↔◌, ◌<◌, ℕ, List, [], All, Contains, IfOk, OnOk, length, map, replicate};
-ghost use Rattle.walk_core.specs.Digraphs.{AddsEdges, HasEdge, IsReversed, IsWithin, ends_of};
+ghost use Rattle.std.specs.Prelude.{◌≡◌, ◌↔◌, ◌<◌, ℕ, All, Contains, IfOk, length, map};
+ghost use Rattle.walk_core.specs.Components.{AreFirsts, HasFoundAll, is_on_cycle};
+ghost use Rattle.walk_core.specs.Digraphs.{AreOnCycles, HasEdge, IsWithin, ends_of};
 
+use super::component::Place;
+use super::cycles::Components;
+use super::edges::Edges;
 use lattice_core::NoMemory;
 use std::alloc::{Allocator, Global};
 use std::marker::Model;
@@ -10,34 +14,34 @@ use std::marker::Model;
 /// A directed graph over the numbers of its nodes, from 0 on. Contracts see a row for each node: the ends of its edges.
 #[derive(Drop)]
 pub struct Digraph<A: Allocator + Copy = Global> {
-    ends: Vec<Vec<usize, A>, A>,
-    namers: Vec<Vec<usize, A>, A>,
+    edges: Edges<A>,
+    components: Components<A>,
     pub(super) alloc: A,
 }
 
 impl<A: Allocator + Copy> Model for Digraph<A> {
-    ghost use Rattle.std.specs.Prelude.{ℕ, List, map};
-    ghost use Rattle.walk_core.specs.Digraphs.{IsReversed};
+    ghost use Rattle.std.specs.Prelude.{ℕ, List};
+    ghost use Rattle.walk_core.specs.Components.{HasFoundAll};
 
     ghost Value = { List (List ℕ) };
 
-    ghost view = { λ graph. map (λ row. row.items) graph.ends.items };
+    ghost view = { λ graph. graph.edges };
 
-    ghost invariant = { λ graph. IsReversed
-        (map (λ row. row.items) graph.ends.items)
-        (map (λ row. row.items) graph.namers.items) };
+    ghost invariant = { λ graph. HasFoundAll graph.edges graph.components };
 }
 
 impl<A: Allocator + Copy> Digraph<A> {
-    /// The graph whose nodes have these ends of edges. It costs O(n + m) time and memory for n nodes and m edges.
+    /// The graph whose nodes have these ends of edges. Its cycles are found here, once. It costs O(n + m) time and memory
+    /// for n nodes and m edges.
     pub fn new(alloc: A, ends: Vec<Vec<usize, A>, A>) -> Result<Digraph<A>, NoMemory>
         requires { IsWithin (map (λ row. row.items) ends.items) }
         ensures { IfOk result (λ graph. graph ≡ map (λ row. row.items) ends.items) }
     {
-        let namers = turned_round(alloc, ends.as_slice())?;
+        let edges = Edges::new(alloc, ends)?;
+        let components = Components::find(alloc, &edges)?;
         Ok(Digraph {
-            ends,
-            namers,
+            edges,
+            components,
             alloc,
         })
     }
@@ -46,7 +50,7 @@ impl<A: Allocator + Copy> Digraph<A> {
     pub fn len(&self) -> usize
         ensures { result ≡ length self.now }
     {
-        self.ends.len()
+        self.edges.len()
     }
 
     /// The ends of a node's edges. Each is a node.
@@ -55,7 +59,7 @@ impl<A: Allocator + Copy> Digraph<A> {
         ensures row { result.now ≡ ends_of self.now node }
         ensures within { All (λ end. end < length self.now) result.now }
     {
-        self.ends[node].as_slice()
+        self.edges.ends(node)
     }
 
     /// The nodes that have an edge to a node.
@@ -64,72 +68,39 @@ impl<A: Allocator + Copy> Digraph<A> {
         ensures row { (namer : ℕ) → Contains result.now namer ↔ HasEdge self.now namer node }
         ensures within { All (λ namer. namer < length self.now) result.now }
     {
-        self.namers[node].as_slice()
+        self.edges.namers(node)
+    }
+
+    /// What was found of the graph's components.
+    pub(super) fn components(&self) -> &Components<A>
+        ensures { HasFoundAll self.now result.now }
+    {
+        &self.components
+    }
+
+    /// Which nodes are on a cycle. It costs O(n) time and memory for n nodes.
+    pub fn on_cycles(&self) -> Result<Vec<bool, A>, NoMemory>
+        ensures { IfOk result (λ marked. AreOnCycles self.now marked.items) }
+    {
+        flags_of(self.alloc, self.components().places.as_slice())
+    }
+
+    /// Of each node the least of its cycle, or itself where it is on none: the least of the nodes that lead to it and
+    /// that it leads to, over some edges or none.
+    pub fn firsts(&self) -> &[usize]
+        ensures { AreFirsts self.now result.now }
+    {
+        self.components().firsts.as_slice()
     }
 }
 
-/// The rows of the graph with each edge turned round: each lists the nodes that have an edge to its own, in their
-/// order.
-fn turned_round<A: Allocator + Copy>(
-    alloc: A,
-    ends: &[Vec<usize, A>],
-) -> Result<Vec<Vec<usize, A>, A>, NoMemory>
-    requires { IsWithin (map (λ row. row.items) ends.now) }
-    ensures { IfOk result (λ namers. IsReversed
-        (map (λ row. row.items) ends.now)
-        (map (λ row. row.items) namers.items)) }
+/// Which nodes are known to be on a cycle.
+fn flags_of<A: Allocator + Copy>(alloc: A, places: &[Place]) -> Result<Vec<bool, A>, NoMemory>
+    ensures { IfOk result (λ flags. flags.items ≡ map is_on_cycle places.now) }
 {
-    let mut namers = empty_rows(alloc, ends.len())?;
-    for (node, row) in ends.iter().enumerate() {
-        name_ends(&mut namers, node, row.as_slice())?;
-    }
-    Ok(namers)
-}
-
-/// So many rows without an end.
-pub(crate) fn empty_rows<A: Allocator + Copy>(
-    alloc: A,
-    count: usize,
-) -> Result<Vec<Vec<usize, A>, A>, NoMemory>
-    ensures { IfOk result (λ rows. map (λ row. row.items) rows.items ≡ replicate count []) }
-{
-    let mut rows = Vec::with_capacity(alloc, count)?;
-    for _ in 0..count {
-        rows.push(Vec::new(alloc))?;
-    }
-    Ok(rows)
-}
-
-/// Adds an edge from each of the ends to the node.
-fn name_ends<A: Allocator + Copy>(
-    namers: &mut Vec<Vec<usize, A>, A>,
-    node: usize,
-    ends: &[usize],
-) -> Result<(), NoMemory>
-    requires { All (λ end. end < length namers.old.items) ends.now }
-    ensures { OnOk result (AddsEdges
-        (map (λ row. row.items) namers.old.items)
-        (λ x y. Contains ends.now x × (y ≡ node))
-        (map (λ row. row.items) namers.new.items)) }
-{
-    for end in ends {
-        add_edge(namers, *end, node)?;
-    }
-    Ok(())
-}
-
-/// Adds an edge to a graph, held as its rows.
-pub(crate) fn add_edge<A: Allocator + Copy>(
-    rows: &mut Vec<Vec<usize, A>, A>,
-    from: usize,
-    to: usize,
-) -> Result<(), NoMemory>
-    requires { from < length rows.old.items }
-    ensures { OnOk result (AddsEdges
-        (map (λ row. row.items) rows.old.items)
-        (λ x y. (x ≡ from) × (y ≡ to))
-        (map (λ row. row.items) rows.new.items)) }
-{
-    rows[from].push(to)?;
-    Ok(())
+    let flags = places
+        .iter()
+        .map(|place| place.is_on_cycle())
+        .collect(alloc)?;
+    Ok(flags)
 }
