@@ -1,6 +1,7 @@
 //! `reviewgate`: the review record of Gerrit changes, kept at several sites.
 #![tactic(auto)]
 
+mod descriptors;
 mod enqueue;
 mod events;
 mod keys;
@@ -10,6 +11,7 @@ use byte_ends::{Drain, Ends, Source};
 use command_line::{Asked, EnqueueWords, RecoverWords, ServeWords, read_words};
 use commands::{report, report_usage, run_asked};
 use console::{Named, Refusal, show_line};
+use descriptors::fill_closed;
 use enqueue::enqueue;
 use events::feed;
 use key_files::{KeyReader, SystemKeys};
@@ -38,6 +40,7 @@ use timed_lines::{SystemMoments, Timed};
 const NOT_TEXT: &str = "error: the words have to be UTF-8\n";
 
 fn main(rt: HostRuntime) -> ExitCode {
+    let _in_place = fill_closed(&rt);
     let alloc = rt.alloc();
     let words = match words_of(&rt) {
         Ok(words) => words,
