@@ -33,7 +33,7 @@ pub fn nodes_of(
     ensures { IfOk result (λ nodes.
         AreNodesAt state.now graph.now verdicts.now.out near.now.ahead.items near.now.behind.items nodes.items) }
 {
-    let firsts = graph.digraph().firsts()?;
+    let firsts = graph.digraph().firsts();
     let mut nodes = Vec::new(alloc);
     for place in 0..graph.items().len() {
         if !is_shown(state, graph, near, place) {
@@ -45,7 +45,7 @@ pub fn nodes_of(
             graph,
             verdicts.out(),
             near,
-            firsts.as_slice(),
+            firsts,
             place,
         )?;
         nodes.push(node)?;

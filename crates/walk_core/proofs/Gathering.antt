@@ -1,5 +1,5 @@
 -- Marks are passed on against edges: what a node is marked with, and that the marks rise.
-use Rattle.std.proofs.Common.{◌≡◌, ◌≢◌, ◌⊎◌, inl, inr, ◌+◌, ◌<◌, ◌≤◌, ℕ, zero, suc, List, [], ◌∷◌, Bool, true, false}
+use Rattle.std.proofs.Common.{◌≡◌, ◌≢◌, ◌⊎◌, inl, inr, ◌+◌, ◌<◌, ◌≤◌, ℕ, suc, List, [], ◌∷◌, Bool, true, false}
 use Rattle.std.proofs.Common.{refl, sym, ◌∙◌, ap, subst, length, set, take, get_or, arith}
 use Rattle.std.specs.Prelude.{nat_eq}
 use lib.Pointwise.{pointwise}
@@ -11,8 +11,6 @@ use Rattle.std.proofs.lemmas.Cmp.{lists_equiv, nat_eq_equiv}
 use Rattle.std.proofs.lemmas.Nat.{le_or_l}
 use Rattle.std.proofs.lemmas.Option.{slice_get_read}
 use Rattle.walk_core.specs.Digraphs.{HasEdge}
-use Rattle.walk_core.specs.Edges.{HasEdge-starts}
-use Rattle.walk_core.specs.Ranks.{LeadsTo}
 use Rattle.walk_core.specs.RankLaws.{LeadsTo-trans, LeadsTo-edge}
 use Rattle.lattice_core.specs.MemberLaws.{Contains-none, Contains-first, Contains-cons_cases}
 use Rattle.walk_core.specs.Components.{AreFirsts}

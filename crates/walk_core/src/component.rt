@@ -7,7 +7,7 @@ ghost use Rattle.walk_core.specs.Components.{AreConnected, AreReleased, AreSettl
 ghost use Rattle.walk_core.specs.Components.{found_place, is_on_cycle, place_of, sought_place};
 ghost use Rattle.walk_core.specs.declared.component.Place.TheVariants.{Waiting};
 
-use super::digraph::Digraph;
+use super::edges::Edges;
 use lattice_core::NoMemory;
 use std::alloc::Allocator;
 
@@ -65,7 +65,7 @@ impl Way {
     }
 
     /// The nodes that are one step from a node.
-    fn steps<A: Allocator + Copy>(self, graph: &Digraph<A>, node: usize) -> &[usize]
+    fn steps<A: Allocator + Copy>(self, graph: &Edges<A>, node: usize) -> &[usize]
         requires { node < length graph.now }
         ensures row { (next : ℕ) → Contains result.now next ↔ IsStep graph.now self node next }
         ensures within { All (λ next. next < length graph.now) result.now }
@@ -80,7 +80,7 @@ impl Way {
 /// Places all nodes that a waiting node is on a cycle with, and answers them. A node that is on none is left as it is.
 pub fn find_component<A: Allocator + Copy>(
     alloc: A,
-    graph: &Digraph<A>,
+    graph: &Edges<A>,
     places: &mut Vec<Place, A>,
     node: usize,
 ) -> Result<Vec<usize, A>, NoMemory>
@@ -100,7 +100,7 @@ pub fn find_component<A: Allocator + Copy>(
 /// m) time and memory for these n nodes and the m steps from them.
 fn spread<A: Allocator + Copy>(
     alloc: A,
-    graph: &Digraph<A>,
+    graph: &Edges<A>,
     places: &mut Vec<Place, A>,
     way: Way,
     start: usize,

@@ -1,21 +1,21 @@
-//! A directed graph over numbered nodes, and what is found in it.
+//! The edges of a directed graph over numbered nodes, listed at both of their ends.
 
 ghost use Rattle.std.specs.Prelude.{◌≡◌, ◌↔◌, ◌<◌, ℕ, List, [], All, Contains, IfOk, OnOk, length, map, replicate};
 ghost use Rattle.walk_core.specs.Digraphs.{AddsEdges, HasEdge, IsReversed, IsWithin, ends_of};
 
 use lattice_core::NoMemory;
-use std::alloc::{Allocator, Global};
+use std::alloc::Allocator;
 use std::marker::Model;
 
-/// A directed graph over the numbers of its nodes, from 0 on. Contracts see a row for each node: the ends of its edges.
+/// The edges of a directed graph over the numbers of its nodes, from 0 on. Contracts see a row for each node: the ends
+/// of its edges.
 #[derive(Drop)]
-pub struct Digraph<A: Allocator + Copy = Global> {
+pub struct Edges<A: Allocator> {
     ends: Vec<Vec<usize, A>, A>,
     namers: Vec<Vec<usize, A>, A>,
-    pub(super) alloc: A,
 }
 
-impl<A: Allocator + Copy> Model for Digraph<A> {
+impl<A: Allocator> Model for Edges<A> {
     ghost use Rattle.std.specs.Prelude.{ℕ, List, map};
     ghost use Rattle.walk_core.specs.Digraphs.{IsReversed};
 
@@ -28,18 +28,14 @@ impl<A: Allocator + Copy> Model for Digraph<A> {
         (map (λ row. row.items) graph.namers.items) };
 }
 
-impl<A: Allocator + Copy> Digraph<A> {
-    /// The graph whose nodes have these ends of edges. It costs O(n + m) time and memory for n nodes and m edges.
-    pub fn new(alloc: A, ends: Vec<Vec<usize, A>, A>) -> Result<Digraph<A>, NoMemory>
+impl<A: Allocator + Copy> Edges<A> {
+    /// The edges of nodes that have these ends of edges. It costs O(n + m) time and memory for n nodes and m edges.
+    pub fn new(alloc: A, ends: Vec<Vec<usize, A>, A>) -> Result<Edges<A>, NoMemory>
         requires { IsWithin (map (λ row. row.items) ends.items) }
         ensures { IfOk result (λ graph. graph ≡ map (λ row. row.items) ends.items) }
     {
         let namers = turned_round(alloc, ends.as_slice())?;
-        Ok(Digraph {
-            ends,
-            namers,
-            alloc,
-        })
+        Ok(Edges { ends, namers })
     }
 
     /// How many nodes there are.

@@ -4,7 +4,7 @@ ghost use Rattle.std.specs.Prelude.{◌≡◌, ◌↔◌, ◌<◌, ◌++◌, ℕ
 ghost use Rattle.std.specs.List.{range_with_len};
 ghost use Rattle.walk_core.specs.declared.finish.Task.TheVariants.{Enter};
 
-use super::digraph::Digraph;
+use super::edges::Edges;
 use lattice_core::NoMemory;
 use std::alloc::Allocator;
 
@@ -20,7 +20,7 @@ enum Task {
 /// that it needs no proof that the search leaves each.
 pub fn finishing_order<A: Allocator + Copy>(
     alloc: A,
-    graph: &Digraph<A>,
+    graph: &Edges<A>,
 ) -> Result<Vec<usize, A>, NoMemory>
     ensures { IfOk result (λ order. (x : ℕ) → Contains order.items x ↔ x < length graph.now) }
 {

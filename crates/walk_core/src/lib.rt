@@ -26,6 +26,7 @@ mod counts;
 mod cycles;
 mod digraph;
 mod distances;
+mod edges;
 mod finish;
 mod laws;
 mod leads;

@@ -8,7 +8,6 @@ ghost use Rattle.walk_core.specs.Digraphs.{HasEdge, IsMarked};
 ghost use Rattle.walk_core.specs.Ranks.{AreRanksInOrder, IsInRankOrder};
 ghost use Rattle.walk_core.specs.NodeRanks.{node_rank, to_rank};
 
-use super::cycles::Components;
 use super::digraph::Digraph;
 use super::leads::lead_counts;
 use lattice_core::NoMemory;
@@ -49,7 +48,7 @@ impl<A: Allocator + Copy> Digraph<A> {
         ensures { IfOk result (λ ranks. AreRanksInOrder nat_cmp (HasEdge self.now) (IsMarked kept.now)
             (map to_rank ranks.items)) }
     {
-        let components = Components::find(self.alloc, self)?;
+        let components = self.components();
         let firsts = components.firsts.as_slice();
         let targets = kept_numbers(self.alloc, kept)?;
         let nodes = kept_from_last(self.alloc, components.nodes.as_slice(), kept)?;

@@ -5,7 +5,8 @@ ghost use Rattle.std.specs.Prelude.{◌≡◌, ◌<◌, ℕ, Bool, Contains, IfO
 ghost use Rattle.walk_core.specs.Digraphs.{HasEdge, IsMarked};
 ghost use Rattle.walk_core.specs.Regions.{AreGrouped, AreRegions, HasLabelled, Waits, label_of};
 
-use super::digraph::{Digraph, empty_rows};
+use super::digraph::Digraph;
+use super::edges::empty_rows;
 use lattice_core::NoMemory;
 use std::alloc::Allocator;
 

@@ -1,7 +1,7 @@
 use Rattle.std.specs.Prelude.{slice_index}
 use Rattle.std.proofs.lemmas.List.{get_or_default}
 use Rattle.walk_core.specs.EdgeLaws.{Named-more, Named-all}
-use Rattle.walk_core.proofs.digraph.name_ends.Goals as goal
+use Rattle.walk_core.proofs.edges.name_ends.Goals as goal
 
 pub loop-end-preserved : goal.loop-end-preserved
 loop-end-preserved g c =

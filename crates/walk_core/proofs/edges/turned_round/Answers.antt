@@ -4,7 +4,7 @@ use Rattle.std.specs.List.{All}
 use Rattle.walk_core.specs.Digraphs.{ends_of}
 use Rattle.walk_core.specs.Edges.{IsWithin-row}
 use Rattle.walk_core.specs.EdgeLaws.{Turned-more, Turned-all, ends_of-read}
-use Rattle.walk_core.proofs.digraph.turned_round.Goals as goal
+use Rattle.walk_core.proofs.edges.turned_round.Goals as goal
 
 pub name_ends-requires : goal.name_ends-requires
 name_ends-requires g c =

@@ -1,6 +1,6 @@
 use Rattle.std.proofs.Common.{◌<◌, [], map, length, replicate}
 use Rattle.walk_core.specs.Digraphs.{AddsEdges, HasEdge}
-use Rattle.walk_core.proofs.digraph.turned_round.Given as goal
+use Rattle.walk_core.proofs.edges.turned_round.Given as goal
 
 abbrev pub invariant-loop-node : goal.invariant-loop-node
 invariant-loop-node g l = AddsEdges (replicate (length l.ends) [])

@@ -7,7 +7,7 @@ use Rattle.walk_core.proofs.digraph.Digraph.on_cycles.Goals as goal
 
 pub returns : goal.returns
 returns g c =
-    let found = c.in_ok-components.ensures in
+    let found = c.components.ensures in
     let marked = are_on_cycles c.args.self.now _ found.settled found.none in
     IfOk-weaker c.flags_of.result (λ flags. flags.items ≡ map is_on_cycle c.as_slice.result.now)
     (λ flags. AreOnCycles c.args.self.now flags.items)

@@ -2,7 +2,7 @@ use Rattle.std.proofs.Common.{◌<◌, ◌≡◌, ℕ, Vec, length, map, sym, ap
 use Rattle.std.specs.List.{All}
 use Rattle.std.proofs.lemmas.List.{length-map}
 use Rattle.walk_core.specs.EdgeLaws.{ends_of-read, lent_ends_within}
-use Rattle.walk_core.proofs.digraph.Digraph.ends.Goals as goal
+use Rattle.walk_core.proofs.edges.Edges.ends.Goals as goal
 
 pub returns-clause-within : goal.returns-clause-within
 returns-clause-within g c =

@@ -3,7 +3,7 @@ use Rattle.std.specs.List.{All, Contains}
 use Rattle.std.proofs.lemmas.List.{length-map}
 use Rattle.walk_core.specs.Digraphs.{HasEdge, ends_of}
 use Rattle.walk_core.specs.EdgeLaws.{ends_of-read, lent_names, lent_names_within}
-use Rattle.walk_core.proofs.digraph.Digraph.namers.Goals as goal
+use Rattle.walk_core.proofs.edges.Edges.namers.Goals as goal
 
 pub returns-clause-row : goal.returns-clause-row
 returns-clause-row g c =

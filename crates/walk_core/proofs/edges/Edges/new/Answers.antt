@@ -1,6 +1,6 @@
 use Rattle.std.proofs.Common.{ℕ, Vec, map, sym, subst}
 use Rattle.walk_core.specs.Digraphs.{IsWithin}
-use Rattle.walk_core.proofs.digraph.Digraph.new.Goals as goal
+use Rattle.walk_core.proofs.edges.Edges.new.Goals as goal
 
 pub turned_round-requires : goal.turned_round-requires
 turned_round-requires g c =
