@@ -105,13 +105,23 @@ class Life:
             return None
         text = change.current.message if message is None else f"{message}\nChange-Id: {change.key}\n"
         above = self.gerrit.children_of(change) if self.dice.random() < 0.6 else []
-        self.gerrit.add_patch_set(change, kind, change.owner, text, parent or change.current.parent)
+        uploader = self.uploader(change)
+        self.gerrit.add_patch_set(change, kind, uploader, text, parent or change.current.parent, self.labels())
         for child in above:
             if child.is_open:
                 self.gerrit.add_patch_set(
                     child, "TRIVIAL_REBASE", change.owner, child.current.message, change.current.revision
                 )
         return change
+
+    def uploader(self, change: Change) -> Account:
+        """Who pushes a patch set: its owner, or one who has voted on the one before."""
+        voters = [by for _, by in change.current.votes if by in PEOPLE]
+        return self.dice.choice(voters) if voters and self.dice.random() < 0.6 else change.owner
+
+    def labels(self) -> dict:
+        """What a push sets: nothing mostly, and never what takes a vote back."""
+        return {"Workflow": 1} if self.dice.random() < 0.4 else {}
 
     def rework(self):
         return self.patched("REWORK", self.message() if self.dice.random() < 0.4 else None, None)
@@ -128,7 +138,8 @@ class Life:
         on_parent = place is not None and place[0].is_open
         parent = place[0].current.revision if on_parent else self.gerrit.tips[change.project]
         kind = self.dice.choice(["TRIVIAL_REBASE", "TRIVIAL_REBASE", "REWORK"])
-        return self.gerrit.add_patch_set(change, kind, self.person(), change.current.message, parent)
+        message = change.current.message
+        return self.gerrit.add_patch_set(change, kind, self.uploader(change), message, parent, self.labels())
 
     def approve(self):
         """All votes that a gate asks for, one after the other, as people and Zuul give them."""

@@ -207,10 +207,31 @@ class Gerrit:
         self.add_patch_set(change, "REWORK", owner, message, parent or self.tips.setdefault(project, self.revision()))
         return change
 
-    def add_patch_set(self, change: Change, kind: str, uploader: Account, message: str, parent: str) -> PatchSet:
+    def add_patch_set(
+        self, change: Change, kind: str, uploader: Account, message: str, parent: str, votes: dict | None = None
+    ) -> PatchSet:
+        """A push, which may set labels: then there is a second event."""
         patch = self.hold_patch_set(change, kind, uploader, message, parent)
+        if votes:
+            self.set_labels(patch, uploader, votes)
         self.emit("patchset-created", change, patch, uploader=uploader.attribute())
+        if votes:
+            approvals = [self.pushed(label, votes.get(label, 0)) for label in LABELS]
+            text = f"Uploaded patch set {patch.number}."
+            self.emit("comment-added", change, patch, author=uploader.attribute(), approvals=approvals, comment=text)
         return patch
+
+    @staticmethod
+    def set_labels(patch: PatchSet, by: Account, votes: dict) -> None:
+        for label, value in votes.items():
+            patch.votes[label, by] = value
+            patch.copied.discard((label, by))
+
+    @staticmethod
+    def pushed(label: str, value: int) -> dict:
+        """What the event of a push has of a label: 0 without an old value unless it set it, whatever was copied."""
+        changed = {"oldValue": "0"} if value else {}
+        return {"type": label, "description": label, "value": str(value)} | changed
 
     def hold_patch_set(self, change: Change, kind: str, uploader: Account, message: str, parent: str) -> PatchSet:
         """A new patch set, without an event: a vote that it keeps brings none either."""

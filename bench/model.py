@@ -840,7 +840,7 @@ MARKS = {"wip": b"work-in-progress", "private": b"private", "outdated": b"outdat
 
 @dataclass(frozen=True)
 class Shown:
-    """A patch set that an event shows: it says nothing against what is known."""
+    """A patch set that an event shows, or that there is no vote: it says nothing against what is known."""
 
     deed: Deed
 
@@ -1000,7 +1000,11 @@ class Event:
         if voter == RESERVED:
             return "username"
         score = 0 if value is MISSING else number_in(value, -128, 127)
-        return "value" if score is None else self.ballot(number, label.encode(), voter, score)
+        if score is None:
+            return "value"
+        ballot = self.ballot(number, label.encode(), voter, score)
+        is_said = score or self.is_query or under(approval, "oldValue") is not MISSING
+        return ballot if is_said else Shown(ballot)
 
     def older(self) -> list:
         found = []
@@ -1119,8 +1123,8 @@ class Written(Feed):
         return super().run(text)
 
     def meet(self, number: int, found) -> None:
-        if not isinstance(found, Listed):
-            deed = found.deed if isinstance(found, Shown) else found
+        deed = found.deed if isinstance(found, Shown) else found
+        if isinstance(deed, Deed) and (deed is found or deed.kind == "patchset"):
             self.output += b"take " + compact(deed.body()) + b"\n"
 
 
@@ -1142,8 +1146,9 @@ class Offered(Feed):
 
     def asked(self, told: Told) -> list:
         """The changes that have to be queried: that of an event which brings a patch set, restores an abandoned change,
-        alters a vote on a patch set that was replaced, or of which something was lost; what a new patch set of an
-        event, but for the first, may outdate; and what it or that of an open row waits for and the record doesn't know.
+        alters a vote on a patch set that was replaced, shows no vote where the record has one, or of which something
+        was lost; what a new patch set of an event, but for the first, may outdate; and what it or that of an open row
+        waits for and the record doesn't know.
         """
         patches = [found.deed if isinstance(found, Shown) else found for found in told.found]
         patches = [deed for deed in patches if isinstance(deed, Deed) and deed.kind == "patchset"]
@@ -1153,6 +1158,7 @@ class Offered(Feed):
             asked = {deed.change for deed in patches}
             asked |= {child for deed in patches if deed.set > 1 for child in self.children(deed.change)}
             asked |= {found.change for found in told.found if self.is_return(found) or self.is_late(found)}
+            asked |= {found.deed.change for found in told.found if self.is_doubtful(found)}
             if told.change is not None and any(isinstance(found, str) for found in told.found):
                 asked.add(told.change)
         elif Deed("restore", told.change or 0) not in told.found:
@@ -1169,6 +1175,11 @@ class Offered(Feed):
         """A vote, given or taken back, on a patch set that a later one has replaced, which the record doesn't say."""
         is_vote = isinstance(found, Deed) and found.kind in ("vote", "withdraw")
         return is_vote and found.set < self.state.current.get(found.change, 0) and not self.is_recorded(found)
+
+    def is_doubtful(self, found) -> bool:
+        """No vote is shown where the record has one."""
+        is_unvoted = isinstance(found, Shown) and found.deed.kind == "withdraw"
+        return is_unvoted and not self.is_recorded(found.deed)
 
     def children(self, parent: int) -> list:
         """The open changes whose current patch set has this parent."""
@@ -1206,8 +1217,10 @@ class Offered(Feed):
 
     def is_news(self, deed: Deed) -> bool:
         """Of a patch set that is known only a parent is news, of a commit that is the same; of another one all is,
-        unless a later one is known, whose message it bears.
+        unless a later one is known, whose message it bears. That there is no vote is none.
         """
+        if deed.kind != "patchset":
+            return False
         held = self.state.sets.get((deed.change, deed.set))
         if held is None:
             return self.state.current.get(deed.change, 0) < deed.set

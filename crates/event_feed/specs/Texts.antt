@@ -7,7 +7,7 @@ use Rattle.gerrit_events.specs.declared.fault.EventFault.{EventFault}
 use Rattle.gerrit_events.specs.declared.fault.EventFault.TheVariants.{BadEvent, Dropped}
 use Rattle.refusal_line.specs.Line.{line_of}
 use Rattle.refusal_line.specs.declared.part.Part.TheVariants.{Events}
-use Rattle.review_ops.specs.Deed.{Deed}
+use Rattle.review_ops.specs.Deed.{Deed, patch_set}
 use Rattle.gerrit_events.specs.declared.finding.Finding.{Finding}
 use Rattle.gerrit_events.specs.declared.finding.Finding.TheVariants.{Brings, Shows, Lists, Refuses}
 
@@ -15,10 +15,15 @@ use Rattle.gerrit_events.specs.declared.finding.Finding.TheVariants.{Brings, Sho
 abbrev pub body_line : Deed → List ℕ
 body_line body = codes "take " ++ body_text body ++ codes "\n"
 
--- a patch set that an event shows is a body, too; a listing is none
+-- a patch set that an event shows is a body, too; that it shows no vote is none, since it may not have been taken back
+abbrev pub shown_line : Deed → List ℕ
+shown_line (patch_set change set message parent) = body_line (patch_set change set message parent)
+shown_line deed = []
+
+-- a listing is no body
 abbrev pub take_line : Finding → List ℕ
 take_line (Brings body) = body_line body
-take_line (Shows body) = body_line body
+take_line (Shows body) = shown_line body
 take_line (Lists listing) = []
 take_line (Refuses fault) = []
 

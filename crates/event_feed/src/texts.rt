@@ -2,13 +2,13 @@
 
 ghost use Rattle.std.specs.Prelude.{◌≡◌, ◌++◌, IfOk, OnOk, string_bytes};
 ghost use Rattle.event_feed.specs.Texts.{bad_event_words, body_line, drops, fault_line, fault_words, is_drop};
-ghost use Rattle.event_feed.specs.Texts.{refusal_line, refusal_lines, take_line, take_lines};
+ghost use Rattle.event_feed.specs.Texts.{refusal_line, refusal_lines, shown_line, take_line, take_lines};
 
 use gerrit_events::{EventFault, Finding};
 use lattice_core::NoMemory;
 use op_text::write_body;
 use refusal_line::{Part, refusal_line};
-use review_ops::Body;
+use review_ops::{Body, Draft};
 use std::alloc::{AllocError, Global};
 
 /// What a line takes beside its body.
@@ -31,8 +31,18 @@ fn add_take_line(text: &mut String, alloc: Global, finding: &Finding) -> Result<
 {
     match finding {
         Finding::Brings(body) => add_body_line(text, alloc, body),
-        Finding::Shows(body) => add_body_line(text, alloc, body),
+        Finding::Shows(body) => add_shown_line(text, alloc, body),
         Finding::Lists(_) | Finding::Refuses(_) => Ok(()),
+    }
+}
+
+/// Adds the line of what an event shows, if that is a patch set.
+fn add_shown_line(text: &mut String, alloc: Global, body: &Body) -> Result<(), NoMemory>
+    ensures { OnOk result (string_bytes text.new ≡ string_bytes text.old ++ shown_line body.now) }
+{
+    match body.draft() {
+        Draft::PatchSet { .. } => add_body_line(text, alloc, body),
+        _ => Ok(()),
     }
 }
 

@@ -67,10 +67,16 @@ abbrev pub IsAskedByNews : State → Option (List (List ℕ)) → Deed → ℕ �
 IsAskedByNews state bases deed number =
     IsNew state deed × ((number ≡ change_of deed) ⊎ (LacksNeeded state bases deed number ⊎ IsOutdated state deed number))
 
--- an event asks by what is new in it, and for a change of which something is lost
+-- no vote is shown, where the record has one: whether it was taken back only Gerrit can say
+abbrev pub IsDoubtful : State → Deed → Type 0
+IsDoubtful state (withdraw change set label voter) = ¬ IsRecorded state (withdraw change set label voter)
+IsDoubtful state deed = ⊥
+
+-- an event asks by what is new in it, for a change that it leaves in doubt, and for one of which something is lost
 abbrev pub IsAskedByEvent : State → Option (List (List ℕ)) → Option ℕ → Finding → ℕ → Type 0
 IsAskedByEvent state bases change (Brings deed) number = IsAskedByNews state bases deed number
-IsAskedByEvent state bases change (Shows deed) number = IsAskedByNews state bases deed number
+IsAskedByEvent state bases change (Shows deed) number =
+    IsAskedByNews state bases deed number ⊎ (IsDoubtful state deed × (number ≡ change_of deed))
 IsAskedByEvent state bases change (Lists listing) number = ⊥
 IsAskedByEvent state bases change (Refuses fault) number = change ≡ Some number
 

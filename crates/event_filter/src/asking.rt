@@ -7,7 +7,8 @@ ghost use Rattle.std.specs.Ordering.{nat_cmp};
 ghost use Rattle.footer_text.specs.Footers.{MessageNeeds};
 ghost use Rattle.review_ops.specs.Deed.{change_of};
 ghost use Rattle.event_filter.specs.Asking.{Gains, AsksFor, IsAskedBy, IsAskedByEvent, IsAskedByNews, IsAskedByRow};
-ghost use Rattle.event_filter.specs.Asking.{HasParent, IsChild, IsNamedByMessage, IsNew, IsOutdated, IsReplaced, IsUnknown, LacksNeeded};
+ghost use Rattle.event_filter.specs.Asking.{HasParent, IsChild, IsDoubtful, IsNamedByMessage, IsNew, IsOutdated};
+ghost use Rattle.event_filter.specs.Asking.{IsReplaced, IsUnknown, LacksNeeded};
 ghost use Rattle.event_filter.specs.Asking.{says_open};
 ghost use Rattle.event_filter.specs.Recorded.{IsRecorded, change_at, patch_at};
 ghost use Rattle.change_core.specs.Views.{status_of};
@@ -104,10 +105,30 @@ fn add_by_event(
 {
     match finding {
         Finding::Brings(body) => add_new(alloc, state, bases, body, asks),
-        Finding::Shows(body) => add_new(alloc, state, bases, body, asks),
+        Finding::Shows(body) => add_shown(alloc, state, bases, body, asks),
         Finding::Lists(_) => Ok(()),
         Finding::Refuses(_) => add_change(change, asks),
     }
+}
+
+/// Adds what is asked for by what is shown: by what is new, and its change, where it leaves a vote in doubt.
+fn add_shown(
+    alloc: Global,
+    state: &State,
+    bases: Option<&Bases>,
+    body: &Body,
+    asks: &mut BTreeSet<u32>,
+) -> Result<(), NoMemory>
+    ensures { OnOk result (Gains
+        (λ number. IsAskedByNews state.now (option_map (λ bases. bases.now) bases.entry) body.now number
+            ⊎ (IsDoubtful state.now body.now × (number ≡ change_of body.now)))
+        asks.old asks.new) }
+{
+    add_new(alloc, state, bases, body, asks)?;
+    if is_doubtful(state, body)? {
+        asks.insert(body.change())?;
+    }
+    Ok(())
 }
 
 /// Adds a change, where there is one.
@@ -151,6 +172,17 @@ fn is_new(state: &State, body: &Body) -> Result<bool, NoMemory>
         Draft::Withdraw { change, set, .. } => is_late(state, *change, *set, body),
         _ => Ok(false),
     }
+}
+
+/// Whether a body withdraws a vote that the record has.
+fn is_doubtful(state: &State, body: &Body) -> Result<bool, NoMemory>
+    ensures { IfOk result (λ doubtful. IsTrue doubtful ↔ IsDoubtful state.now body.now) }
+{
+    if !matches!(body.draft(), Draft::Withdraw { .. }) {
+        return Ok(false);
+    }
+    let said = is_recorded(state, body)?;
+    Ok(!said)
 }
 
 /// Whether a change has a later patch set than this one, and the record lacks what the body says.

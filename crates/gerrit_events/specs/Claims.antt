@@ -1,7 +1,7 @@
 -- What a line claims: the bodies that it spells, in order, and what is lost of it. Events: Gerrit's "stream-events";
 -- approvals, accounts and dependencies: "JSON Data"; lines of a query: "query". The order is the project's own.
-use Rattle.std.specs.Prelude.{ℕ, ◌-◌, ◌==◌, ℤ, pos, negsuc, Bool, false, List, [], ◌∷◌, ◌++◌, length, map, flat_map}
-use Rattle.std.specs.Prelude.{take, slice_get, replicate, if◌then◌else◌, Option, Some, None, codes}
+use Rattle.std.specs.Prelude.{ℕ, ◌-◌, ◌==◌, ℤ, pos, negsuc, Bool, true, false, List, [], ◌∷◌, ◌++◌, length, map, flat_map}
+use Rattle.std.specs.Prelude.{take, slice_get, replicate, if◌then◌else◌, Option, Some, None, is_some, codes}
 use Rattle.std.specs.Str.{bytes_eq}
 use Rattle.serde_json.specs.Data.{Data}
 use Rattle.serde_json.specs.Find.{get}
@@ -29,7 +29,8 @@ use Rattle.gerrit_events.specs.Values.{text_in, number_value, vote_value, user_i
 pub data Claim : Type 0 where
   -- a body, good or not
   drafts : Deed → Claim
-  -- a patch set, good or not, as an event shows it that isn't about it, or whose parents this run doesn't know
+  -- a patch set, good or not, as an event shows it that isn't about it, or whose parents this run doesn't know; or that
+  -- there is no vote, where the event doesn't say that it was taken back
   shows : Deed → Claim
   -- all votes of a patch set
   lists : Listing → Claim
@@ -95,33 +96,46 @@ brought_claims known kind line (Some patch) = patch_claims known kind line patch
 abbrev pub first_claims : List Revision → Kind → Data → List Claim
 first_claims known kind line = brought_claims known kind line (brought_by known kind line)
 
--- ---- votes: a value of 0 and a missing one withdraw, whatever the old value was
+-- ---- votes: a value of 0 and a missing one withdraw, if the approval has an old value
 
 abbrev pub is_zero : ℤ → Bool
 is_zero (pos n) = n == 0
 is_zero (negsuc n) = false
 
-abbrev pub vote_of : ℕ → ℕ → List ℕ → List ℕ → Option (Option ℤ) → Claim
-vote_of change set label voter None = drafts (withdraw change set label voter)
-vote_of change set label voter (Some None) = bad Value
-vote_of change set label voter (Some (Some value)) =
-    if is_zero value then drafts (withdraw change set label voter) else drafts (vote change set label voter value)
+-- an event has an old value where it took a vote back; that of a push has 0 for each other label, also where Gerrit has
+-- copied a vote to the new patch set, so that a 0 alone withdraws nothing
+abbrev pub unvoted : Bool → Deed → Claim
+unvoted true deed = drafts deed
+unvoted false deed = shows deed
+
+abbrev pub vote_of : ℕ → ℕ → List ℕ → List ℕ → Bool → Option (Option ℤ) → Claim
+vote_of change set label voter is_taken_back None = unvoted is_taken_back (withdraw change set label voter)
+vote_of change set label voter is_taken_back (Some None) = bad Value
+vote_of change set label voter is_taken_back (Some (Some value)) =
+    if is_zero value then unvoted is_taken_back (withdraw change set label voter)
+    else drafts (vote change set label voter value)
+
+-- whether the approval takes a vote back that has no value any more; those of a row say what is so
+abbrev pub is_taken_back : Kind → Data → Bool
+is_taken_back QueryLine approval = true
+is_taken_back kind approval = is_some (get (codes "oldValue") approval)
 
 abbrev pub value_under : Option Data → Option (Option ℤ)
 value_under None = None
 value_under (Some d) = Some (vote_value (Some d))
 
-abbrev pub voted : ℕ → ℕ → EventKey → Option (List ℕ) → Option (List ℕ) → Option (Option ℤ) → Claim
-voted change set key None user value = bad TypeName
-voted change set key (Some label) None value = bad key
-voted change set key (Some label) (Some voter) value =
-    if bytes_eq voter reserved_voter then bad Username else vote_of change set label voter value
+abbrev pub voted : ℕ → ℕ → EventKey → Option (List ℕ) → Option (List ℕ) → Bool → Option (Option ℤ) → Claim
+voted change set key None user is_taken_back value = bad TypeName
+voted change set key (Some label) None is_taken_back value = bad key
+voted change set key (Some label) (Some voter) is_taken_back value =
+    if bytes_eq voter reserved_voter then bad Username else vote_of change set label voter is_taken_back value
 
 -- what an approval claims
 abbrev pub vote_claim : Kind → Data → ℕ → ℕ → Data → Claim
 vote_claim kind line change set approval =
     voted change set (account_key kind) (text_in (get (codes "type") approval))
-    (user_in (account_part kind line approval)) (value_under (get (codes "value") approval))
+    (user_in (account_part kind line approval)) (is_taken_back kind approval)
+    (value_under (get (codes "value") approval))
 
 abbrev pub vote_claims : Kind → Data → ℕ → ℕ → Option Data → List Claim
 vote_claims kind line change set approvals = map (vote_claim kind line change set) (listed_values approvals)

@@ -46,7 +46,7 @@ impl Claim {
         }
     }
 
-    /// A patch set that an event shows.
+    /// A patch set that an event shows, or that it shows no vote.
     pub fn shows(draft: Draft) -> Claim
         ensures { result ≡ shows (deed_of draft) }
     {
@@ -104,7 +104,7 @@ fn settled_draft(draft: Draft) -> Finding
     }
 }
 
-/// The finding of a shown patch set: its body, or the loss of an invalid one.
+/// The finding of what is shown: its body, or the loss of an invalid one.
 fn settled_shown(draft: Draft) -> Finding
     ensures { IsSettled (shows (deed_of draft)) result }
 {

@@ -7,8 +7,8 @@ ghost use Rattle.review_ops.specs.Draft.{deed_of};
 ghost use Rattle.gerrit_events.specs.Claims.{drafts, bad, change_claims, claims_by, closing_claims, first_claims};
 ghost use Rattle.gerrit_events.specs.Claims.{listed_claims, lost_footers, lost_parents, mark_claim, older_claims};
 ghost use Rattle.gerrit_events.specs.Claims.{opening_claims, patch_claim, patch_claims, patch_marks, query_claims};
-ghost use Rattle.gerrit_events.specs.Claims.{set_claims, state_claim, vote_claim, vote_claims, vote_of, value_under};
-ghost use Rattle.gerrit_events.specs.Claims.{with_set};
+ghost use Rattle.gerrit_events.specs.Claims.{is_taken_back, set_claims, state_claim, unvoted, value_under, vote_claim};
+ghost use Rattle.gerrit_events.specs.Claims.{vote_claims, vote_of, with_set};
 ghost use Rattle.gerrit_events.specs.declared.kind.Kind.TheVariants.{QueryLine};
 ghost use Rattle.gerrit_events.specs.Listings.{ballot_of, ballot_shown, ballots_in, mark_ballot};
 ghost use Rattle.gerrit_events.specs.Marks.{marks_in};
@@ -346,8 +346,19 @@ impl<'k, 'v, 'a> Event<'k, 'v, 'a> {
         if voter == RESERVED_VOTER {
             return Ok(Claim::bad(EventKey::Username));
         }
+        let is_taken_back = self.is_taken_back(approval);
         let value = member(approval, "value");
-        vote_of(self.alloc, change, set, label, voter, value)
+        vote_of(self.alloc, change, set, label, voter, is_taken_back, value)
+    }
+
+    /// Whether an approval without a score takes a vote back: in a row each does, in an event those with an old value.
+    fn is_taken_back(&self, approval: &Value<'a>) -> bool
+        ensures { result ≡ is_taken_back self.now.line.kind (data_in approval.now) }
+    {
+        match self.line.kind {
+            Kind::QueryLine => true,
+            _ => member(approval, "oldValue").is_some(),
+        }
     }
 
     /// What a row of a query claims of its patch sets. A claim that the change is open comes last.
@@ -539,26 +550,27 @@ fn add_bad(claims: &mut Vec<Claim>, key: EventKey, count: usize) -> Result<(), N
     Ok(())
 }
 
-/// The vote of a voter, by what its value is, if it has one.
+/// The vote of a voter, by what its value is, if it has one, and by whether one of 0 takes a vote back.
 fn vote_of(
     alloc: Global,
     change: u32,
     set: u32,
     label: &str,
     voter: &str,
+    is_taken_back: bool,
     value: Option<&Value<'_>>,
 ) -> Result<Claim, NoMemory>
-    ensures { IfOk result (λ claim. claim
-        ≡ vote_of change set label.now voter.now (value_under (option_map (λ value. data_in value.now) value.entry))) }
+    ensures { IfOk result (λ claim. claim ≡ vote_of change set label.now voter.now is_taken_back
+        (value_under (option_map (λ value. data_in value.now) value.entry))) }
 {
     let label = String::from_str(alloc, label)?;
     let voter = String::from_str(alloc, voter)?;
     let Some(value) = value else {
-        return Ok(withdrawn(change, set, label, voter));
+        return Ok(unvoted(is_taken_back, change, set, label, voter));
     };
     match value_in(Some(value)) {
         None => Ok(Claim::bad(EventKey::Value)),
-        Some(0) => Ok(withdrawn(change, set, label, voter)),
+        Some(0) => Ok(unvoted(is_taken_back, change, set, label, voter)),
         Some(value) => Ok(Claim::drafts(Draft::Vote {
             change,
             set,
@@ -567,6 +579,21 @@ fn vote_of(
             value,
         })),
     }
+}
+
+/// The claim that there is no vote: that it was withdrawn, if one was taken back, else that an event shows none.
+fn unvoted(is_taken_back: bool, change: u32, set: u32, label: String, voter: String) -> Claim
+    ensures { result ≡ unvoted is_taken_back (withdraw change set (string_bytes label) (string_bytes voter)) }
+{
+    if is_taken_back {
+        return withdrawn(change, set, label, voter);
+    }
+    Claim::shows(Draft::Withdraw {
+        change,
+        set,
+        label,
+        voter,
+    })
 }
 
 /// The claim that a vote was withdrawn.

@@ -10,7 +10,8 @@ pub enum Finding {
     /// A valid body, with its label in lower case.
     Brings(Body),
     /// A patch set that an event about something else shows, so its message may be that of a later patch set; or one
-    /// none of whose parents this run knows. If the record has it, at most its parent is new.
+    /// none of whose parents this run knows. If the record has it, at most its parent is new. Or the withdrawal of a vote
+    /// that an event shows as 0, without saying that it was taken back.
     Shows(Body),
     /// All votes of a patch set.
     Lists(Listing),

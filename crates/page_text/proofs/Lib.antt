@@ -11,3 +11,5 @@ mod WaitingSteps
 mod Counting
 mod TableRows
 mod Marks
+mod Wanting
+mod RowlessSteps

@@ -18,9 +18,9 @@ use Rattle.page_text.specs.declared.facts.Facts.{Facts}
 use Rattle.page_text.specs.Items.{items_tokens}
 use Rattle.page_text.specs.Metrics.{metrics_of}
 use Rattle.page_text.specs.Problem.{problem_tokens}
-use Rattle.page_text.specs.Rows.{chosen_rows, rows_on}
+use Rattle.page_text.specs.Rows.{chosen_rows}
 use Rattle.page_text.specs.Site.{site_tokens}
-use Rattle.page_text.specs.Table.{HasRows}
+use Rattle.page_text.specs.Table.{HasTable}
 use Rattle.page_text.specs.Titles.{IsTitled, item_title}
 use Rattle.page_text.specs.Waiting.{EndsInWaiting, waiting_for}
 use Rattle.page_text.specs.declared.rows.Row.{Row}
@@ -34,10 +34,11 @@ pub record IsText (status : Status) (kind : Kind) (text : List ℕ) (page : Page
   pub is : IsPage status kind page
   pub text_is : page.body.items ≡ text
 
--- the page for people with a table of these rows
-pub record IsListPage (state : State) (rows : List Row) (page : Page) : Type 0 where
+-- the page for people that has just one table with rows, which are those of this page of a list
+pub record IsListPage (gate : GateRules) (state : State) (verdicts : Judged) (number : ℕ) (rows : List Row)
+    (page : Page) : Type 0 where
   pub is : IsPage Found kind.Html page
-  pub rows_are : HasRows state rows page.body.items
+  pub rows_are : HasTable gate state verdicts number rows page.body.items
 
 -- the page for people of an item, which its title names
 pub record IsItemPage (state : State) (item : Item) (page : Page) : Type 0 where
@@ -83,7 +84,7 @@ IsOfRecord route = Unit {0}
 -- the answer under a gate, to a record of so many operations with this state and these verdicts
 abbrev pub IsPageAnswer : GateRules → State → ℕ → Judged → Facts → Route → Page → Type 0
 IsPageAnswer gate state operations verdicts facts (route.List choice) page =
-    IsListPage state (rows_on choice.page (chosen_rows state choice verdicts)) page
+    IsListPage gate state verdicts choice.page (chosen_rows state choice verdicts) page
 IsPageAnswer gate state operations verdicts facts (route.Change place) page =
     IsOfItem state place (IsItemPage state) (IsPage NotFound kind.Html) page
 IsPageAnswer gate state operations verdicts facts route.Status page =

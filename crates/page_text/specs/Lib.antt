@@ -14,6 +14,8 @@ pub mod Labels
 pub mod Parts
 pub mod Samples
 pub mod Metrics
+pub mod Wanted
+pub mod Rowless
 pub mod Table
 pub mod Titles
 pub mod Answer

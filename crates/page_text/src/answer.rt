@@ -11,7 +11,7 @@ ghost use Rattle.page_text.specs.Answer.{IsPage, IsSamePage, IsText, event_text}
 ghost use Rattle.page_text.specs.Items.{items_tokens};
 ghost use Rattle.page_text.specs.Metrics.{metrics_of};
 ghost use Rattle.page_text.specs.Problem.{problem_tokens};
-ghost use Rattle.page_text.specs.Rows.{chosen_rows, rows_on};
+ghost use Rattle.page_text.specs.Rows.{chosen_rows};
 ghost use Rattle.page_text.specs.Site.{site_tokens};
 
 use super::change::change_page;
@@ -136,8 +136,8 @@ fn list_answer(
     facts: &Facts,
 ) -> Result<Page, NoMemory>
     requires { IsStrictlySortedBy item_cmp (items_out verdicts.now.out) }
-    ensures { IfOk result (IsListPage (state_of replica.now)
-        (rows_on choice.now.page (chosen_rows (state_of replica.now) choice.now verdicts.now))) }
+    ensures { IfOk result (IsListPage gate.now (state_of replica.now) verdicts.now choice.now.page
+        (chosen_rows (state_of replica.now) choice.now verdicts.now)) }
 {
     let body = list_page(alloc, choice, gate, replica, verdicts, facts)?;
     Ok(found(Kind::Html, body))

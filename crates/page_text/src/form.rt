@@ -1,5 +1,7 @@
 //! The form in which a list is asked for.
 
+ghost use Rattle.page_text.specs.Rowless.{AddsRowless, IsRowless};
+
 use super::names::{KINDS, REASONS, reason_name, shown_name};
 use super::template::fill;
 use markup_text::{Markup, Piece};
@@ -24,7 +26,9 @@ const LAST: &str = r#"</select></p>
 "#;
 
 /// Adds the form, with what is asked for filled in.
-pub fn add_form(page: &mut Markup, choice: &Choice) {
+pub fn add_form(page: &mut Markup, choice: &Choice)
+    ensures { AddsRowless page.old page.new }
+{
     let words = match &choice.words {
         Some(words) => words.as_str(),
         None => "",
@@ -37,25 +41,32 @@ pub fn add_form(page: &mut Markup, choice: &Choice) {
 }
 
 /// Adds the kinds of items that can be chosen.
-fn add_kinds(page: &mut Markup, shown: Shown) {
+fn add_kinds(page: &mut Markup, shown: Shown)
+    ensures { AddsRowless page.old page.new }
+{
     for kind in KINDS {
         add_option(page, shown_name(kind), kind == shown);
     }
 }
 
 /// Adds the reasons that can be chosen.
-fn add_reasons(page: &mut Markup, asked: Option<Reason>) {
+fn add_reasons(page: &mut Markup, asked: Option<Reason>)
+    ensures { AddsRowless page.old page.new }
+{
     for reason in REASONS {
         add_option(page, reason_name(reason), asked == Some(reason));
     }
 }
 
 /// Adds what can be chosen.
-fn add_option(page: &mut Markup, name: &'static str, is_chosen: bool) {
-    let template = if is_chosen {
-        "<option selected>{}</option>\n"
+fn add_option(page: &mut Markup, name: &'static str, is_chosen: bool)
+    requires { IsRowless name.now }
+    ensures { AddsRowless page.old page.new }
+{
+    let name = Piece::Markup(name);
+    if is_chosen {
+        fill(page, "<option selected>{}</option>\n", &[name]);
     } else {
-        "<option>{}</option>\n"
-    };
-    fill(page, template, &[Piece::Markup(name)]);
+        fill(page, "<option>{}</option>\n", &[name]);
+    }
 }

@@ -3,6 +3,7 @@
 ghost use Rattle.std.specs.Prelude.{◌++◌, IfOk, IfSome, codes, flat_map};
 ghost use Rattle.markup_text.specs.Growing.{Adds};
 ghost use Rattle.markup_text.specs.Pieces.{piece_html};
+ghost use Rattle.page_text.specs.Rowless.{IsRowless};
 ghost use Rattle.page_text.specs.Titles.{IsEnded, IsTitled};
 
 use lattice_core::NoMemory;
@@ -28,7 +29,8 @@ const AFTER_TITLE: &str = r#"
 
 /// A page with a title up to where its own part begins.
 pub fn begin(alloc: Global, title: &[Piece<'_>], site: u16) -> Markup
-    ensures { IfSome result (IsTitled (flat_map piece_html title.now)) }
+    ensures titled { IfSome result (IsTitled (flat_map piece_html title.now)) }
+    ensures rowless { IsRowless (flat_map piece_html title.now) → IfSome result IsRowless }
 {
     let mut page = Markup::new(alloc);
     page.add(&[Piece::Markup(BEFORE_TITLE)]);

@@ -1,7 +1,10 @@
 //! Links from one page to another.
 
 ghost use Rattle.markup_text.specs.Growing.{Adds};
-ghost use Rattle.page_text.specs.Table.{link_html};
+ghost use Rattle.markup_text.specs.Html.{html_of};
+ghost use Rattle.ready_core.specs.Words.{refusal_text};
+ghost use Rattle.page_text.specs.Rowless.{AddsRowless};
+ghost use Rattle.page_text.specs.Table.{left_html, link_html};
 
 use super::names::{reason_name, shown_name};
 use super::template::fill;
@@ -33,14 +36,18 @@ pub fn add_item_link(page: &mut Markup, item: Item)
 }
 
 /// Adds an item that is left out, with a link to its page, and its refusal.
-pub fn add_left(alloc: Global, page: &mut Markup, left: Left) {
+pub fn add_left(alloc: Global, page: &mut Markup, left: Left)
+    ensures { Adds (left_html left) page.old page.new }
+{
     add_item_link(page, left.item);
     page.add(&[Piece::Markup(" ")]);
     add_refusal_words(alloc, page, left.refusal);
 }
 
 /// Adds a refusal in the words of a report.
-pub fn add_refusal_words(alloc: Global, page: &mut Markup, refusal: Refusal) {
+pub fn add_refusal_words(alloc: Global, page: &mut Markup, refusal: Refusal)
+    ensures { Adds (html_of (refusal_text refusal)) page.old page.new }
+{
     match refusal_words(alloc, refusal) {
         Ok(words) => page.add(&[Piece::Text(words.as_str())]),
         Err(_) => page.refuse(),
@@ -48,7 +55,9 @@ pub fn add_refusal_words(alloc: Global, page: &mut Markup, refusal: Refusal) {
 }
 
 /// Adds the address of a page of a list.
-pub fn add_address(page: &mut Markup, choice: &Choice, number: u64) {
+pub fn add_address(page: &mut Markup, choice: &Choice, number: u64)
+    ensures { AddsRowless page.old page.new }
+{
     fill(
         page,
         "/?show={}&amp;page={}",
@@ -62,20 +71,23 @@ pub fn add_address(page: &mut Markup, choice: &Choice, number: u64) {
 }
 
 /// Adds the reason that is asked for, if one is.
-fn add_reason(page: &mut Markup, reason: Option<Reason>) {
-    let Some(reason) = reason else {
-        return;
-    };
-    page.add(&[
-        Piece::Markup("&amp;reason="),
-        Piece::Markup(reason_name(reason)),
-    ]);
+fn add_reason(page: &mut Markup, reason: Option<Reason>)
+    ensures { AddsRowless page.old page.new }
+{
+    if let Some(reason) = reason {
+        fill(
+            page,
+            "&amp;reason={}",
+            &[Piece::Markup(reason_name(reason))],
+        );
+    }
 }
 
 /// Adds the words that are searched for, if some are.
-fn add_words(page: &mut Markup, choice: &Choice) {
-    let Some(words) = &choice.words else {
-        return;
-    };
-    page.add(&[Piece::Markup("&amp;q="), Piece::Query(words.as_str())]);
+fn add_words(page: &mut Markup, choice: &Choice)
+    ensures { AddsRowless page.old page.new }
+{
+    if let Some(words) = &choice.words {
+        fill(page, "&amp;q={}", &[Piece::Query(words.as_str())]);
+    }
 }

@@ -5,8 +5,9 @@ ghost use Rattle.std.specs.List.Sorted.{IsStrictlySortedBy};
 ghost use Rattle.state_core.specs.Items.{item_cmp};
 ghost use Rattle.state_core.specs.State.{state_of};
 ghost use Rattle.ready_core.specs.Verdicts.{items_out};
-ghost use Rattle.page_text.specs.Rows.{chosen_rows, rows_on};
-ghost use Rattle.page_text.specs.Table.{HasRows};
+ghost use Rattle.page_text.specs.Rowless.{AddsRowless, IsRowless};
+ghost use Rattle.page_text.specs.Rows.{chosen_rows};
+ghost use Rattle.page_text.specs.Table.{HasTable};
 
 use super::counts::{Counted, count_of};
 use super::durations::in_unit;
@@ -15,8 +16,8 @@ use super::form::add_form;
 use super::frame::{begin, end};
 use super::links::add_address;
 use super::names::{REASONS, reason_name};
-use super::rows::{ROWS, Row, chosen_rows, rows_of};
-use super::table::add_rows;
+use super::rows::chosen_rows;
+use super::table::{add_table, pages_of};
 use super::template::fill;
 use gate_rules::Gate;
 use lattice_core::NoMemory;
@@ -26,14 +27,6 @@ use ready_core::Verdicts;
 use replica_core::Replica;
 use state_core::State;
 use std::alloc::Global;
-
-/// What comes before the rows.
-const HEAD: &str = r#"<table>
-<caption>Page {} of {}, {} items in all</caption>
-<thead><tr><th scope="col">Place</th><th scope="col">Item</th><th scope="col">Subject</th>
-<th scope="col">Why it waits</th><th scope="col">Cause</th></tr></thead>
-<tbody>
-"#;
 
 /// How many items may enter, and how many open ones may not.
 const COUNTS: &str = r#"<div id="live">
@@ -51,61 +44,30 @@ pub fn list_page(
     facts: &Facts,
 ) -> Result<Vec<u8>, NoMemory>
     requires { IsStrictlySortedBy item_cmp (items_out verdicts.now.out) }
-    ensures { IfOk result (λ text. HasRows (state_of replica.now)
-        (rows_on choice.now.page (chosen_rows (state_of replica.now) choice.now verdicts.now)) text.items) }
+    ensures { IfOk result (λ text. HasTable gate.now (state_of replica.now) verdicts.now choice.now.page
+        (chosen_rows (state_of replica.now) choice.now verdicts.now) text.items) }
 {
     let chosen = chosen_rows(alloc, replica.state(), verdicts, choice)?;
-    let top = top_of(alloc, choice, verdicts, facts, chosen.len());
-    let bottom = bottom_of(alloc, choice, chosen.len());
-    let rows = rows_of(chosen.as_slice(), choice.page);
-    let text = page_between(alloc, top, &bottom, gate, replica.state(), verdicts, rows)?;
-    Ok(text)
-}
-
-/// The page that has its rows between these.
-fn page_between(
-    alloc: Global,
-    top: Markup,
-    bottom: &Markup,
-    gate: &Gate,
-    state: &State,
-    verdicts: &Verdicts,
-    rows: &[Row],
-) -> Result<Vec<u8>, NoMemory>
-    requires { IsStrictlySortedBy item_cmp (items_out verdicts.now.out) }
-    ensures { IfOk result (λ text. HasRows state.now rows.now text.items) }
-{
-    let mut page = top;
-    add_table(alloc, &mut page, bottom, gate, state, verdicts, rows);
+    let mut page = top_of(alloc, choice, verdicts, facts);
+    let rows = chosen.as_slice();
+    add_table(
+        alloc,
+        &mut page,
+        gate,
+        replica.state(),
+        verdicts,
+        rows,
+        choice.page,
+    );
+    add_bottom(&mut page, choice, rows.len());
     let text = end(page)?;
     Ok(text)
 }
 
-/// Adds the rows, and what comes after them.
-fn add_table(
-    alloc: Global,
-    page: &mut Markup,
-    bottom: &Markup,
-    gate: &Gate,
-    state: &State,
-    verdicts: &Verdicts,
-    rows: &[Row],
-)
-    requires { IsStrictlySortedBy item_cmp (items_out verdicts.now.out) }
-    ensures { IfSome page.new (HasRows state.now rows.now) }
+/// What comes before the table.
+fn top_of(alloc: Global, choice: &Choice, verdicts: &Verdicts, facts: &Facts) -> Markup
+    ensures { IfSome result IsRowless }
 {
-    add_rows(alloc, page, gate, state, verdicts, rows);
-    page.append(bottom);
-}
-
-/// What comes before the rows.
-fn top_of(
-    alloc: Global,
-    choice: &Choice,
-    verdicts: &Verdicts,
-    facts: &Facts,
-    rows: usize,
-) -> Markup {
     let mut page = begin(alloc, &[Piece::Markup("Items")], facts.site);
     page.add(&[Piece::Markup("<h1>Items</h1>\n")]);
     add_form(&mut page, choice);
@@ -115,12 +77,13 @@ fn top_of(
     add_heard(&mut page, facts.heard_ms);
     add_peers(&mut page, facts.peers.as_slice());
     add_reasons(&mut page, verdicts);
-    add_caption(&mut page, choice.page, rows);
     page
 }
 
 /// Adds how many items may enter, and how many open ones may not.
-fn add_counts(page: &mut Markup, verdicts: &Verdicts) {
+fn add_counts(page: &mut Markup, verdicts: &Verdicts)
+    ensures { AddsRowless page.old page.new }
+{
     fill(
         page,
         COUNTS,
@@ -132,7 +95,10 @@ fn add_counts(page: &mut Markup, verdicts: &Verdicts) {
 }
 
 /// Adds how long ago something was, in the two places of a template.
-fn add_ago(page: &mut Markup, template: &'static str, age_ms: u64) {
+fn add_ago(page: &mut Markup, template: &'static str, age_ms: u64)
+    requires { IsRowless template.now }
+    ensures { AddsRowless page.old page.new }
+{
     let (number, unit) = in_unit(age_ms);
     fill(
         page,
@@ -142,28 +108,32 @@ fn add_ago(page: &mut Markup, template: &'static str, age_ms: u64) {
 }
 
 /// Adds when the last operation came.
-fn add_news(page: &mut Markup, news_ms: Option<u64>) {
-    let Some(news_ms) = news_ms else {
-        page.add(&[Piece::Markup("<p>No operation came since the start.</p>\n")]);
-        return;
-    };
-    add_ago(page, "<p>The last operation came {}{} ago.</p>\n", news_ms);
+fn add_news(page: &mut Markup, news_ms: Option<u64>)
+    ensures { AddsRowless page.old page.new }
+{
+    match news_ms {
+        Some(news_ms) => add_ago(page, "<p>The last operation came {}{} ago.</p>\n", news_ms),
+        None => fill(page, "<p>No operation came since the start.</p>\n", &[]),
+    }
 }
 
 /// Adds when a feed last heard from Gerrit, where one did.
-fn add_heard(page: &mut Markup, heard_ms: Option<u64>) {
-    let Some(heard_ms) = heard_ms else {
-        return;
-    };
-    add_ago(
-        page,
-        "<p>A feed last heard from Gerrit {}{} ago.</p>\n",
-        heard_ms,
-    );
+fn add_heard(page: &mut Markup, heard_ms: Option<u64>)
+    ensures { AddsRowless page.old page.new }
+{
+    if let Some(heard_ms) = heard_ms {
+        add_ago(
+            page,
+            "<p>A feed last heard from Gerrit {}{} ago.</p>\n",
+            heard_ms,
+        );
+    }
 }
 
 /// Adds the peers that can't be reached.
-fn add_peers(page: &mut Markup, peers: &[PeerFacts]) {
+fn add_peers(page: &mut Markup, peers: &[PeerFacts])
+    ensures { AddsRowless page.old page.new }
+{
     for peer in peers {
         if !peer.is_reachable {
             add_peer(page, peer);
@@ -172,7 +142,9 @@ fn add_peers(page: &mut Markup, peers: &[PeerFacts]) {
 }
 
 /// Adds a peer that can't be reached.
-fn add_peer(page: &mut Markup, peer: &PeerFacts) {
+fn add_peer(page: &mut Markup, peer: &PeerFacts)
+    ensures { AddsRowless page.old page.new }
+{
     let (number, unit) = in_unit(peer.condition_ms);
     fill(
         page,
@@ -186,7 +158,9 @@ fn add_peer(page: &mut Markup, peer: &PeerFacts) {
 }
 
 /// Adds the reasons for which open items wait, with their numbers.
-fn add_reasons(page: &mut Markup, verdicts: &Verdicts) {
+fn add_reasons(page: &mut Markup, verdicts: &Verdicts)
+    ensures { AddsRowless page.old page.new }
+{
     page.add(&[Piece::Markup("<h2>Why open items wait</h2>\n<ul>\n")]);
     for reason in REASONS {
         let count = count_of(verdicts.out(), Counted::For(reason));
@@ -196,7 +170,10 @@ fn add_reasons(page: &mut Markup, verdicts: &Verdicts) {
 }
 
 /// Adds a reason with its number.
-fn add_reason(page: &mut Markup, name: &'static str, count: u64) {
+fn add_reason(page: &mut Markup, name: &'static str, count: u64)
+    requires { IsRowless name.now }
+    ensures { AddsRowless page.old page.new }
+{
     let name = Piece::Markup(name);
     fill(
         page,
@@ -205,41 +182,40 @@ fn add_reason(page: &mut Markup, name: &'static str, count: u64) {
     );
 }
 
-/// Adds the caption and the head of the table.
-fn add_caption(page: &mut Markup, number: u32, rows: usize) {
-    fill(
-        page,
-        HEAD,
-        &[
-            Piece::Number(u64::from(number.max(1))),
-            Piece::Number(pages_of(rows)),
-            Piece::Number(rows as u64),
-        ],
-    );
-}
-
-/// How many pages so many rows have, at least one.
-fn pages_of(rows: usize) -> u64 {
-    (rows.saturating_sub(1) / ROWS) as u64 + 1
-}
-
-/// What comes after the rows: links to the page before and to the one after, where there are any.
-fn bottom_of(alloc: Global, choice: &Choice, rows: usize) -> Markup {
-    let mut bottom = Markup::new(alloc);
+/// Adds links to the page before and to the one after, where there are any.
+fn add_bottom(page: &mut Markup, choice: &Choice, rows: usize)
+    ensures { AddsRowless page.old page.new }
+{
     let number = u64::from(choice.page.max(1));
-    bottom.add(&[Piece::Markup("</tbody>\n</table>\n<nav aria-label=\"Pages\">\n")]);
+    page.add(&[Piece::Markup("<nav aria-label=\"Pages\">\n")]);
+    add_previous(page, choice, number);
+    add_next(page, choice, number, pages_of(rows));
+    page.add(&[Piece::Markup("</nav>\n</div>\n")]);
+}
+
+/// Adds a link to the page before this one, unless this is the first.
+fn add_previous(page: &mut Markup, choice: &Choice, number: u64)
+    ensures { AddsRowless page.old page.new }
+{
     if number > 1 {
-        add_link(&mut bottom, choice, "prev\">Previous page", number - 1);
+        add_link(page, choice, "prev\">Previous page", number - 1);
     }
-    if number < pages_of(rows) {
-        add_link(&mut bottom, choice, "next\">Next page", number + 1);
+}
+
+/// Adds a link to the page after this one, unless this is the last.
+fn add_next(page: &mut Markup, choice: &Choice, number: u64, pages: u64)
+    ensures { AddsRowless page.old page.new }
+{
+    if number < pages {
+        add_link(page, choice, "next\">Next page", number + 1);
     }
-    bottom.add(&[Piece::Markup("</nav>\n</div>\n")]);
-    bottom
 }
 
 /// Adds a link to another page of the list.
-fn add_link(page: &mut Markup, choice: &Choice, words: &'static str, number: u64) {
+fn add_link(page: &mut Markup, choice: &Choice, words: &'static str, number: u64)
+    requires { IsRowless words.now }
+    ensures { AddsRowless page.old page.new }
+{
     page.add(&[Piece::Markup("<a href=\"")]);
     add_address(page, choice, number);
     fill(page, "\" rel=\"{}</a>\n", &[Piece::Markup(words)]);

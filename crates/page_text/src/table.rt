@@ -1,24 +1,74 @@
-//! The rows of the table of a list.
+//! The table of a list.
 
+ghost use Rattle.std.specs.Prelude.{◌≡◌, IfSome};
 ghost use Rattle.std.specs.List.Sorted.{IsStrictlySortedBy};
+ghost use Rattle.gate_rules.specs.Rules.{GateRules};
 ghost use Rattle.markup_text.specs.Growing.{Adds, Grows};
 ghost use Rattle.state_core.specs.Items.{item_cmp};
-ghost use Rattle.ready_core.specs.Verdicts.{items_out};
-ghost use Rattle.page_text.specs.Table.{AddsRow, AddsRows, about_html};
+ghost use Rattle.ready_core.specs.Verdicts.{Judged, items_out};
+ghost use Rattle.page_text.specs.Table.{AddsCause, AddsRow, AddsRows, AddsTable, EndsRow, about_html, pages_of};
+ghost use Rattle.page_text.specs.Table.{reason_html, table_begins, why_html};
 
 use super::chain::cause_of;
 use super::links::{add_item_link, add_left, add_refusal_words};
-use super::rows::Row;
+use super::rows::{ROWS, Row, rows_of};
 use super::subject::subject_of;
 use super::words::add_wanted;
-use gate_rules::Gate;
+use gate_rules::{Condition, Gate};
 use markup_text::{Markup, Piece};
 use ready_core::{Left, Refusal, Verdicts};
 use state_core::{Item, State};
 use std::alloc::Global;
 
+/// How the table begins after its caption.
+const HEAD: &str = r#" items in all</caption>
+<thead><tr><th scope="col">Place</th><th scope="col">Item</th><th scope="col">Subject</th>
+<th scope="col">Why it waits</th><th scope="col">Cause</th></tr></thead>
+<tbody>
+"#;
+
+/// Adds the table of a page of these rows.
+pub fn add_table(
+    alloc: Global,
+    page: &mut Markup,
+    gate: &Gate,
+    state: &State,
+    verdicts: &Verdicts,
+    rows: &[Row],
+    number: u32,
+)
+    requires { IsStrictlySortedBy item_cmp (items_out verdicts.now.out) }
+    ensures { Grows (AddsTable gate.now state.now verdicts.now number rows.now) page.old page.new }
+{
+    add_head(page, number, rows.len());
+    add_rows(alloc, page, gate, state, verdicts, rows_of(rows, number));
+    page.add(&[Piece::Markup("</tbody>\n</table>\n")]);
+}
+
+/// Adds the caption and the head of the table.
+fn add_head(page: &mut Markup, number: u32, rows: usize)
+    ensures { Adds (table_begins number rows) page.old page.new }
+{
+    page.add(&[
+        Piece::Markup("<table>\n<caption>Page "),
+        Piece::Number(u64::from(number.max(1))),
+        Piece::Markup(" of "),
+        Piece::Number(pages_of(rows)),
+        Piece::Markup(", "),
+        Piece::Number(rows as u64),
+        Piece::Markup(HEAD),
+    ]);
+}
+
+/// How many pages so many rows have, at least one.
+pub fn pages_of(rows: usize) -> u64
+    ensures { result ≡ pages_of rows }
+{
+    (rows.saturating_sub(1) / ROWS) as u64 + 1
+}
+
 /// Adds rows.
-pub fn add_rows(
+fn add_rows(
     alloc: Global,
     page: &mut Markup,
     gate: &Gate,
@@ -27,7 +77,7 @@ pub fn add_rows(
     rows: &[Row],
 )
     requires { IsStrictlySortedBy item_cmp (items_out verdicts.now.out) }
-    ensures { Grows (AddsRows state.now rows.now) page.old page.new }
+    ensures { Grows (AddsRows gate.now state.now verdicts.now rows.now) page.old page.new }
 {
     for row in rows {
         add_row(alloc, page, gate, state, verdicts, *row);
@@ -44,7 +94,7 @@ fn add_row(
     row: Row,
 )
     requires { IsStrictlySortedBy item_cmp (items_out verdicts.now.out) }
-    ensures { Grows (AddsRow state.now row) page.old page.new }
+    ensures { Grows (AddsRow gate.now state.now verdicts.now row) page.old page.new }
 {
     match row {
         Row::Enters(item, place) => add_ready(page, state, item, place),
@@ -54,7 +104,8 @@ fn add_row(
 
 /// Adds the row of an item that is ready.
 fn add_ready(page: &mut Markup, state: &State, item: Item, place: usize)
-    ensures { Grows (AddsRow state.now (Row.Enters item place)) page.old page.new }
+    ensures { (gate : GateRules) → (verdicts : Judged)
+        → Grows (AddsRow gate state.now verdicts (Row.Enters item place)) page.old page.new }
 {
     page.add(&[
         Piece::Markup("<tr><td>"),
@@ -75,7 +126,7 @@ fn add_waiting(
     left: Left,
 )
     requires { IsStrictlySortedBy item_cmp (items_out verdicts.now.out) }
-    ensures { Grows (AddsRow state.now (Row.Waits left)) page.old page.new }
+    ensures { Grows (AddsRow gate.now state.now verdicts.now (Row.Waits left)) page.old page.new }
 {
     let cells = waiting_cells(alloc, gate, state, verdicts, left);
     page.add(&[Piece::Markup("<tr><td></td>")]);
@@ -105,24 +156,55 @@ fn waiting_cells(
     left: Left,
 ) -> Markup
     requires { IsStrictlySortedBy item_cmp (items_out verdicts.now.out) }
+    ensures { IfSome result (EndsRow gate.now state.now verdicts.now (Row.Waits left)) }
 {
     let mut cells = Markup::new(alloc);
     add_why(alloc, &mut cells, gate, left.refusal);
     cells.add(&[Piece::Markup("<td>")]);
-    if let Refusal::Dependency(_) = left.refusal {
-        add_left(alloc, &mut cells, cause_of(state, verdicts, left));
-    }
+    add_cause(alloc, &mut cells, state, verdicts, left);
     cells.add(&[Piece::Markup("</td></tr>\n")]);
     cells
 }
 
-/// Adds the cell of a refusal, with what the gate asks there.
-fn add_why(alloc: Global, cells: &mut Markup, gate: &Gate, refusal: Refusal) {
-    cells.add(&[Piece::Markup("<td class=\"waits\">")]);
-    add_refusal_words(alloc, cells, refusal);
-    if let Refusal::Own(condition) = refusal {
-        cells.add(&[Piece::Markup(": ")]);
-        add_wanted(cells, gate, condition);
+/// Adds the item at the end of those that an item waits for, if it waits for one.
+fn add_cause(alloc: Global, cells: &mut Markup, state: &State, verdicts: &Verdicts, left: Left)
+    requires { IsStrictlySortedBy item_cmp (items_out verdicts.now.out) }
+    ensures { Grows (AddsCause state.now verdicts.now left) cells.old cells.new }
+{
+    match left.refusal {
+        Refusal::Dependency(_) => add_left(alloc, cells, cause_of(state, verdicts, left)),
+        Refusal::Own(_) => {}
+        Refusal::Cycle => {}
+        Refusal::Unknown(_) => {}
     }
+}
+
+/// Adds the cell of a refusal, with what the gate asks there.
+fn add_why(alloc: Global, cells: &mut Markup, gate: &Gate, refusal: Refusal)
+    ensures { Adds (why_html gate.now refusal) cells.old cells.new }
+{
+    cells.add(&[Piece::Markup("<td class=\"waits\">")]);
+    add_reason(alloc, cells, gate, refusal);
     cells.add(&[Piece::Markup("</td>")]);
+}
+
+/// Adds a refusal, with what the gate asks there.
+fn add_reason(alloc: Global, cells: &mut Markup, gate: &Gate, refusal: Refusal)
+    ensures { Adds (reason_html gate.now refusal) cells.old cells.new }
+{
+    match refusal {
+        Refusal::Own(condition) => add_condition(alloc, cells, gate, condition),
+        Refusal::Cycle => add_refusal_words(alloc, cells, Refusal::Cycle),
+        Refusal::Unknown(change) => add_refusal_words(alloc, cells, Refusal::Unknown(change)),
+        Refusal::Dependency(change) => add_refusal_words(alloc, cells, Refusal::Dependency(change)),
+    }
+}
+
+/// Adds a condition, with what the gate asks there.
+fn add_condition(alloc: Global, cells: &mut Markup, gate: &Gate, condition: Condition)
+    ensures { Adds (reason_html gate.now (Refusal.Own condition)) cells.old cells.new }
+{
+    add_refusal_words(alloc, cells, Refusal::Own(condition));
+    cells.add(&[Piece::Markup(": ")]);
+    add_wanted(cells, gate, condition);
 }
