@@ -489,15 +489,23 @@ where
     T: SessionHooks,
     J: Naming,
 {
-    let worker_context = WorkerContext {
+    let worker_context = worker_context_of(rt, context);
+    do_jobs(&worker_context, context.gate_follower(first), worker, waker);
+}
+
+/// What a worker shares with the other threads.
+fn worker_context_of<'a, R, E: Drain, T: SessionHooks>(
+    rt: &'a R,
+    context: &'a SiteContext<'_, E, T>,
+) -> WorkerContext<'a, R, E, T> {
+    WorkerContext {
         rt,
         alloc: context.alloc,
         admission: context.admission(),
         metrics: &context.metrics,
         errors: &context.errors,
         hooks: context.hooks,
-    };
-    do_jobs(&worker_context, context.gate_follower(first), worker, waker);
+    }
 }
 
 /// Brings the news of the last publish, and then closes the news.
