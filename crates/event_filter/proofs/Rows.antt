@@ -93,7 +93,7 @@ later_listed (Some ballot) ballots label voter e = or_true (is_ballot_of label v
 -- ---- votes
 
 vote_of_only : (change set : ℕ) (label voter : List ℕ) (value : Option (Option ℤ))
-    → Only (λ place. score_place change (record { set = set; label = map to_ascii_lowercase label; voter = voter }) ≡ place) (vote_of change set label voter value)
+    → Only (λ place. score_place change (record { set = set; label = map to_ascii_lowercase label; voter = voter }) ≡ place) (vote_of change set label voter true value)
 vote_of_only change set label voter None = λ place speaks. speaks
 vote_of_only change set label voter (Some None) = λ place speaks. absurd speaks
 vote_of_only change set label voter (Some (Some value)) =
@@ -105,11 +105,11 @@ Balloted change set found place =
     × (found ≡ Some ballot)
 
 voted_only : (change set : ℕ) (key : EventKey) (label user : Option (List ℕ)) (value : Option (Option ℤ))
-    → Only (Balloted change set (ballot_by label user)) (voted change set key label user value)
+    → Only (Balloted change set (ballot_by label user)) (voted change set key label user true value)
 voted_only change set key None user value = λ place speaks. absurd speaks
 voted_only change set key (Some label) None value = λ place speaks. absurd speaks
 voted_only change set key (Some label) (Some voter) value =
-    elim (bytes_eq voter reserved_voter) as (λ t. Only (Balloted change set (if t then None else Some (record { label = map to_ascii_lowercase label; voter = voter }))) (if t then bad Username else vote_of change set label voter value)) [
+    elim (bytes_eq voter reserved_voter) as (λ t. Only (Balloted change set (if t then None else Some (record { label = map to_ascii_lowercase label; voter = voter }))) (if t then bad Username else vote_of change set label voter true value)) [
       | true ↦ λ place speaks. absurd speaks
       | false ↦ λ place speaks. (_, vote_of_only change set label voter value place speaks, refl)
     ]
@@ -513,17 +513,17 @@ vote_claimed : (line : Data) (change set : ℕ) (approval : Data) (label voter :
     → IsApproval approval label voter value
     → vote_claim QueryLine line change set approval ≡ drafts (ballot_deed change set label voter value)
 vote_claimed line change set approval label voter value is =
-    ap (λ found. voted change set By found (user_in (get (codes "by") approval)) (value_under (get (codes "value") approval))) is.on_label
-    ∙ ap (λ user. voted change set By (Some label) user (value_under (get (codes "value") approval))) is.by_voter
-    ∙ ap (λ t. if t then bad Username else vote_of change set label voter (value_under (get (codes "value") approval))) is.real
+    ap (λ found. voted change set By found (user_in (get (codes "by") approval)) true (value_under (get (codes "value") approval))) is.on_label
+    ∙ ap (λ user. voted change set By (Some label) user true (value_under (get (codes "value") approval))) is.by_voter
+    ∙ ap (λ t. if t then bad Username else vote_of change set label voter true (value_under (get (codes "value") approval))) is.real
     ∙ by_value (get (codes "value") approval) is.with_value where
       by_zero : (b : Bool) → (if b then drafts (withdraw change set label voter) else drafts (vote change set label voter value)) ≡ drafts (if b then withdraw change set label voter else vote change set label voter value)
       by_zero true = refl
       by_zero false = refl
 
-      by_value : (found : Option Data) → vote_value found ≡ Some value → vote_of change set label voter (value_under found) ≡ drafts (ballot_deed change set label voter value)
+      by_value : (found : Option Data) → vote_value found ≡ Some value → vote_of change set label voter true (value_under found) ≡ drafts (ballot_deed change set label voter value)
       by_value None e = cc
-      by_value (Some d) e = ap (λ v. vote_of change set label voter (Some v)) e ∙ by_zero (is_zero value)
+      by_value (Some d) e = ap (λ v. vote_of change set label voter true (Some v)) e ∙ by_zero (is_zero value)
 
 zero_is : (value : ℤ) → is_zero value ≡ true → value ≡ pos 0
 zero_is (pos n) e = ap pos (eqb-true n 0 e)

@@ -26,12 +26,12 @@ use std::collections::BTreeSet;
 
 /// The changes that have to be queried because of a line: (1) the change of an event that has a new patch set, restores
 /// a change that the record has as abandoned, has a vote or a withdrawal that the record lacks on a replaced patch set
-/// (Gerrit may copy it to the current one, and has no event for that), or is lost in part; (2) if the new patch set
-/// isn't the first, the open changes whose current patch set has that change as its parent, since it may outdate them;
-/// (3) of a new patch set, and of the patch set of an open row, the parent and the changes that the message names under
-/// these bases, if the record has neither a patch set nor a merge of them. Refusal: memory was refused. It costs O(n +
-/// m log k) for n bytes of messages and m of such changes, of k changes of the record, and O(k) more where a patch set
-/// that isn't the first is new.
+/// (Gerrit may copy it to the current one, and has no event for that), shows no vote where the record has one, or is
+/// lost in part; (2) if the new patch set isn't the first, the open changes whose current patch set has that change as
+/// its parent, since it may outdate them; (3) of a new patch set, and of the patch set of an open row, the parent and
+/// the changes that the message names under these bases, if the record has neither a patch set nor a merge of them.
+/// Refusal: memory was refused. It costs O(n + m log k) for n bytes of messages and m of such changes, of k changes of
+/// the record, and O(k) more where a patch set that isn't the first is new.
 pub fn asked(
     alloc: Global,
     state: &State,
@@ -121,7 +121,7 @@ fn add_shown(
 ) -> Result<(), NoMemory>
     ensures { OnOk result (Gains
         (λ number. IsAskedByNews state.now (option_map (λ bases. bases.now) bases.entry) body.now number
-            ⊎ (IsDoubtful state.now body.now × (number ≡ change_of body.now)))
+        ⊎ (IsDoubtful state.now body.now × (number ≡ change_of body.now)))
         asks.old asks.new) }
 {
     add_new(alloc, state, bases, body, asks)?;
@@ -174,13 +174,21 @@ fn is_new(state: &State, body: &Body) -> Result<bool, NoMemory>
     }
 }
 
-/// Whether a body withdraws a vote that the record has.
+/// Whether a body withdraws a vote that the record has. Where an event shows it, only Gerrit can say which of them is
+/// out of date.
 fn is_doubtful(state: &State, body: &Body) -> Result<bool, NoMemory>
     ensures { IfOk result (λ doubtful. IsTrue doubtful ↔ IsDoubtful state.now body.now) }
 {
-    if !matches!(body.draft(), Draft::Withdraw { .. }) {
-        return Ok(false);
+    match body.draft() {
+        Draft::Withdraw { .. } => lacks(state, body),
+        _ => Ok(false),
     }
+}
+
+/// Whether the record lacks what a body says.
+fn lacks(state: &State, body: &Body) -> Result<bool, NoMemory>
+    ensures { IfOk result (λ lacks. IsTrue lacks ↔ (¬ IsRecorded state.now body.now)) }
+{
     let said = is_recorded(state, body)?;
     Ok(!said)
 }

@@ -7,7 +7,9 @@ use event_filter::{
     what_is_met_is_what_the_record_says, what_is_nothing_new_brings_nothing,
 };
 use footer_text::Bases;
-use gerrit_events::{Ballot, EventFault, EventKey, Finding, Listing, Part, Told};
+use gerrit_events::{
+    Ballot, EventFault, EventKey, Finding, Known, Listing, Part, Projects, Told, read_event,
+};
 use op_text::write_body;
 use review_ops::Body;
 use state_core::State;
@@ -206,6 +208,30 @@ const LISTINGS: &[Case] = &[
 #[test]
 fn who_is_not_listed_is_withdrawn(rt: HostRuntime) {
     assert_brought(&rt, rt.alloc(), LISTINGS);
+}
+
+/// Votes that an event takes back, and that it shows as 0 alone.
+const ZEROS: &[Case] = &[
+    (
+        &[VETO],
+        Found::Brings(7, Deed::Withdraw(1, "code-review", "bob")),
+        NO_VETO,
+    ),
+    (
+        &[VETO],
+        Found::Shows(7, Deed::Withdraw(1, "code-review", "bob")),
+        "",
+    ),
+    (
+        &[],
+        Found::Shows(7, Deed::Withdraw(1, "code-review", "bob")),
+        "",
+    ),
+];
+
+#[test]
+fn a_vote_that_is_shown_as_0_stays(rt: HostRuntime) {
+    assert_brought(&rt, rt.alloc(), ZEROS);
 }
 
 const MERGED: (u32, Deed) = (7, Deed::Merged);
@@ -434,6 +460,29 @@ const QUESTIONS: &[Question] = &[
         &[Found::Brings(7, Deed::Vote(1, "l", "bob", -2)), OPEN],
         &[],
     ),
+    (
+        &[VETO],
+        Part::Event(Some(7)),
+        &[Found::Shows(7, Deed::Withdraw(1, "code-review", "bob"))],
+        &[7],
+    ),
+    (
+        &[VETO],
+        Part::Event(Some(7)),
+        &[
+            Found::Shows(7, Deed::Withdraw(1, "code-review", "ann")),
+            Found::Shows(7, Deed::Withdraw(1, "workflow", "bob")),
+            Found::Shows(7, Deed::Withdraw(2, "code-review", "bob")),
+            Found::Shows(8, Deed::Withdraw(1, "code-review", "bob")),
+        ],
+        &[],
+    ),
+    (
+        &[VETO],
+        Part::Event(Some(7)),
+        &[Found::Brings(7, Deed::Withdraw(1, "code-review", "bob"))],
+        &[],
+    ),
     (&[], Part::Stats { more: false }, &[Found::Refuses], &[]),
 ];
 
@@ -443,6 +492,63 @@ fn what_is_unknown_is_asked_for(rt: HostRuntime) {
         let (record, part, found, wanted) = *question;
         let asks = asks_of(rt.alloc(), record, part, found);
         assert_found(&rt, (number, asks.as_deref()), (number, Some(wanted)));
+    }
+}
+
+/// The bodies that the findings bring, each on a line.
+fn brought_of_all(alloc: Global, state: &State, findings: Vec<Finding>) -> Option<String> {
+    let mut text = String::new(alloc);
+    for finding in findings {
+        push_bodies(
+            alloc,
+            &mut text,
+            brought(alloc, state, finding).ok()?.as_slice(),
+        )?;
+    }
+    Some(text)
+}
+
+/// What a line of Gerrit's brings to the record of these deeds, and what is asked for.
+fn brought_by_line(
+    alloc: Global,
+    record: &[(u32, Deed)],
+    line: &str,
+) -> Option<(String, Vec<u32>)> {
+    let mut known = Known::new(alloc);
+    let state = state_of(alloc, record)?;
+    let told = read_event(alloc, &mut known, &Projects::all(), line.as_bytes()).ok()?;
+    let asks = numbers_of(alloc, asked_of(alloc, &state, &told)?)?;
+    Some((brought_of_all(alloc, &state, told.findings)?, asks))
+}
+
+/// A change whose second patch set has a veto that Gerrit copied to it.
+const COPIED_VETO: &[(u32, Deed)] = &[
+    (7, Deed::PatchSet(1, "m", None)),
+    (7, Deed::Vote(1, "code-review", "bob", -2)),
+    (7, Deed::PatchSet(2, "m", None)),
+    (7, Deed::Vote(2, "code-review", "bob", -2)),
+];
+
+/// The event of a push that sets one label, which shows the others as 0, and that of a veto that is taken back.
+const ZERO_LINES: &[(&str, &str, &[u32])] = &[
+    (
+        r#"{"type":"comment-added","change":{"number":7},"patchSet":{"number":2},"author":{"username":"bob"},"approvals":[{"type":"Code-Review","value":"0"},{"type":"Workflow","value":"1","oldValue":"0"}]}"#,
+        "{\"change\":7,\"label\":\"workflow\",\"op\":\"vote\",\"set\":2,\"value\":1,\"voter\":\"bob\"}\n",
+        &[7],
+    ),
+    (
+        r#"{"type":"comment-added","change":{"number":7},"patchSet":{"number":2},"author":{"username":"bob"},"approvals":[{"type":"Code-Review","value":"0","oldValue":"-2"},{"type":"Workflow","value":"0"}]}"#,
+        "{\"change\":7,\"label\":\"code-review\",\"op\":\"withdraw\",\"set\":2,\"voter\":\"bob\"}\n",
+        &[],
+    ),
+];
+
+#[test]
+fn a_copied_veto_stays_until_it_is_taken_back(rt: HostRuntime) {
+    for (line, wanted, wanted_asks) in ZERO_LINES {
+        let met = brought_by_line(rt.alloc(), COPIED_VETO, *line);
+        let found = met.as_ref().map(|met| (met.0.as_str(), met.1.as_slice()));
+        assert_found(&rt, found, Some((*wanted, *wanted_asks)));
     }
 }
 

@@ -172,7 +172,7 @@ const COMMENTED: &str =
     r#"{"author":{"name":"Zuul","username":"zuul"},"approvals":[{"type":"Verified","description":"Verified","value":"2","oldValue":"1"},{"type":"Code-Review","value":"0","oldValue":"1"},{"type":"Workflow"}],"comment":"Patch Set 1: Verified+2","patchSet":{"number":1,"revision":"a1","parents":[]},"change":{"number":101,"commitMessage":"m"},"type":"comment-added"}"#;
 
 const VOTES: &str =
-    "{\"change\":101,\"label\":\"verified\",\"op\":\"vote\",\"set\":1,\"value\":2,\"voter\":\"zuul\"}\n{\"change\":101,\"label\":\"code-review\",\"op\":\"withdraw\",\"set\":1,\"voter\":\"zuul\"}\n{\"change\":101,\"label\":\"workflow\",\"op\":\"withdraw\",\"set\":1,\"voter\":\"zuul\"}\n";
+    "{\"change\":101,\"label\":\"verified\",\"op\":\"vote\",\"set\":1,\"value\":2,\"voter\":\"zuul\"}\n{\"change\":101,\"label\":\"code-review\",\"op\":\"withdraw\",\"set\":1,\"voter\":\"zuul\"}\n~ {\"change\":101,\"label\":\"workflow\",\"op\":\"withdraw\",\"set\":1,\"voter\":\"zuul\"}\n";
 
 /// Approvals that are given and taken back, and what is amiss with others.
 const APPROVALS: &[Row] = &[
@@ -191,6 +191,30 @@ const APPROVALS: &[Row] = &[
             r#"{"type":"reviewer-deleted","change":{"number":7},"patchSet":{"number":3},"reviewer":{"username":"bob","email":"b@example.org"},"approvals":[{"type":"L","value":-1,"oldValue":"-2"}]}"#,
         ],
         found: "{\"change\":7,\"label\":\"l\",\"op\":\"vote\",\"set\":3,\"value\":-1,\"voter\":\"bob\"}\n",
+    },
+    Row {
+        lines: &[
+            r#"{"type":"comment-added","change":{"number":7},"patchSet":{"number":3},"author":{"username":"ann"},"approvals":[{"type":"Code-Review","value":"0"},{"type":"Workflow","value":"1","oldValue":"0"}]}"#,
+        ],
+        found: "~ {\"change\":7,\"label\":\"code-review\",\"op\":\"withdraw\",\"set\":3,\"voter\":\"ann\"}\n{\"change\":7,\"label\":\"workflow\",\"op\":\"vote\",\"set\":3,\"value\":1,\"voter\":\"ann\"}\n",
+    },
+    Row {
+        lines: &[
+            r#"{"type":"comment-added","change":{"number":7},"patchSet":{"number":3},"author":{"username":"ann"},"approvals":[{"type":"L","value":0},{"type":"L","oldValue":"1"},{"type":"L","value":0,"oldValue":1}]}"#,
+        ],
+        found: "~ {\"change\":7,\"label\":\"l\",\"op\":\"withdraw\",\"set\":3,\"voter\":\"ann\"}\n{\"change\":7,\"label\":\"l\",\"op\":\"withdraw\",\"set\":3,\"voter\":\"ann\"}\n{\"change\":7,\"label\":\"l\",\"op\":\"withdraw\",\"set\":3,\"voter\":\"ann\"}\n",
+    },
+    Row {
+        lines: &[
+            r#"{"type":"vote-deleted","change":{"number":7},"patchSet":{"number":3},"reviewer":{"username":"bob"},"approvals":[{"type":"L","value":"0"}]}"#,
+        ],
+        found: "~ {\"change\":7,\"label\":\"l\",\"op\":\"withdraw\",\"set\":3,\"voter\":\"bob\"}\n",
+    },
+    Row {
+        lines: &[
+            r#"{"type":"reviewer-deleted","change":{"number":7},"patchSet":{"number":3},"reviewer":{"username":"bob"},"approvals":[{"type":"L","value":"0"},{"type":"M","value":"0","oldValue":"2"}]}"#,
+        ],
+        found: "~ {\"change\":7,\"label\":\"l\",\"op\":\"withdraw\",\"set\":3,\"voter\":\"bob\"}\n{\"change\":7,\"label\":\"m\",\"op\":\"withdraw\",\"set\":3,\"voter\":\"bob\"}\n",
     },
     Row {
         lines: &[r#"{"type":"comment-added","change":{"number":7},"patchSet":{"number":3}}"#],
