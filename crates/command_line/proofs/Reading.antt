@@ -111,18 +111,18 @@ any_item_unread rows (Some text) absent is there present none None gives =
 
 pub no_ready : (rows : List Row) → ((given : Option (ℕ × Option ℕ)) → ¬ GivesAnyItem rows given) → (asked : Asked)
     → ¬ ArgumentsSay ready rows asked
-no_ready rows none (Run (Ready gate snapshot is_json)) says = none None says.2
-no_ready rows none (Run (ReadyItem gate snapshot change set is_json)) says = none (Some (change, set)) says.2
+no_ready rows none (Run (Ready command)) says = none None says.2
+no_ready rows none (Run (ReadyItem command)) says = none (Some (command.change, command.set)) says.2
 no_ready rows none asked says = says
 
 pub no_why : (rows : List Row) → ((item : ℕ × Option ℕ) → ¬ GivesItem rows item.0 item.1) → (asked : Asked)
     → ¬ ArgumentsSay why rows asked
-no_why rows none (Run (Why gate snapshot change set is_all is_json)) says = none (change, set) says.2
+no_why rows none (Run (Why command)) says = none (command.change, command.set) says.2
 no_why rows none asked says = says
 
 pub no_footers : (rows : List Row) → ((change : ℕ) → ¬ GivesNumber rows (codes "change") 0 4294967295 change)
     → (asked : Asked) → ¬ ArgumentsSay footers rows asked
-no_footers rows none (Run (Footers gate message change is_json)) says = none change says.2
+no_footers rows none (Run (Footers command)) says = none command.change says.2
 no_footers rows none asked says = says
 
 pub no_serve : (rows : List Row) → ((words : ServeWords) → ¬ AreOptions rows words) → (asked : Asked)

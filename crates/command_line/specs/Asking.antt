@@ -1,6 +1,6 @@
 -- What the words of a command line ask for: each command's arguments, with the limits of their numbers, and what they
 -- say.
-use Rattle.std.specs.Prelude.{◌≡◌, ◌⊎◌, ◌↔◌, Bool, true, false, IsTrue, List, [], None, Some, codes, map, option_map}
+use Rattle.std.specs.Prelude.{◌≡◌, ◌⊎◌, ◌↔◌, true, false, IsTrue, List, [], None, Some, codes, map, option_map}
 use Rattle.std.specs.Prelude.{string_bytes, unwrap_or}
 use Rattle.std.specs.List.{list_all, list_any}
 use Rattle.command_tree.specs.Matching.{AreFaulty, AskForHelp, AskForVersion, HasFlag, AreFaultlessWords, Matched, Row}
@@ -12,14 +12,20 @@ use Rattle.command_line.specs.declared.asked.Asked.TheVariants.{Enqueue, Events,
 use Rattle.command_line.specs.declared.asked.Asked.TheVariants.{Usage, Version}
 use Rattle.command_line.specs.declared.asked.Command.TheVariants.{Check, Footers, Graph, Merge, Ready, Simulate}
 use Rattle.command_line.specs.declared.asked.Command.TheVariants.{ReadyItem, Why}
+use Rattle.command_line.specs.declared.asked.Detail.{Detail}
+use Rattle.command_line.specs.declared.asked.Detail.TheVariants.{AllConditions, Cause}
 use Rattle.command_line.specs.declared.asked.EnqueueWords.{EnqueueWords}
 use Rattle.command_line.specs.declared.asked.EventWords.{EventWords}
+use Rattle.command_line.specs.declared.asked.OutputFormat.{OutputFormat}
+use Rattle.command_line.specs.declared.asked.OutputFormat.TheVariants as format
 use Rattle.command_line.specs.declared.asked.Printing.{Printing}
 use Rattle.command_line.specs.declared.asked.Printing.TheVariants.{Report, Changes, Nothing}
 use Rattle.command_line.specs.declared.asked.SocketMode.{SocketMode}
 use Rattle.command_line.specs.declared.asked.SocketMode.TheVariants.{Group, Owner}
 use Rattle.command_line.specs.declared.asked.RecoverWords.{RecoverWords}
 use Rattle.command_line.specs.declared.asked.ServeWords.{ServeWords}
+use Rattle.command_line.specs.declared.asked.Strictness.{Strictness}
+use Rattle.command_line.specs.declared.asked.Strictness.TheVariants.{Lenient, Strict}
 use Rattle.command_line.specs.Values.{HasArgument, GivesAny, GivesItem, GivesNumber, GivesNumbers, GivesRows}
 use Rattle.command_line.specs.Values.{GivesAnyItem, GivesAnyPage, GivesAnyPeer, GivesHosts, GivesPaths, GivesPeers}
 use Rattle.command_line.specs.Values.{GivesTexts}
@@ -154,35 +160,47 @@ text_of recover = codes "recover"
 text_of events = codes "events"
 text_of enqueue = codes "enqueue"
 
--- whether the answer is to be JSON
-abbrev pub AsksForJson : List Row → Bool → Type 0
-AsksForJson rows is_json = IsTrue is_json ↔ HasFlag rows (codes "json")
+-- how the answer is to be written
+abbrev pub GivesFormat : List Row → OutputFormat → Type 0
+GivesFormat rows format.Text = ¬ HasFlag rows (codes "json")
+GivesFormat rows format.Json = HasFlag rows (codes "json")
+
+-- how much of the verdict on an item is to be explained
+abbrev pub GivesDetail : List Row → Detail → Type 0
+GivesDetail rows Cause = ¬ HasFlag rows (codes "all")
+GivesDetail rows AllConditions = HasFlag rows (codes "all")
+
+-- whether warnings are to be a refusal
+abbrev pub GivesStrictness : List Row → Strictness → Type 0
+GivesStrictness rows Lenient = ¬ HasFlag rows (codes "strict")
+GivesStrictness rows Strict = HasFlag rows (codes "strict")
 
 -- the arguments of the command say that this is asked
 abbrev pub ArgumentsSay : Name → List Row → Asked → Type 0
-ArgumentsSay ready rows (Run (Ready gate snapshot is_json)) =
-    HasArgument rows (codes "GATE") gate.now × HasArgument rows (codes "SNAPSHOT") snapshot.now
-    × GivesAnyItem rows None × AsksForJson rows is_json
-ArgumentsSay ready rows (Run (ReadyItem gate snapshot change set is_json)) =
-    HasArgument rows (codes "GATE") gate.now × HasArgument rows (codes "SNAPSHOT") snapshot.now
-    × GivesAnyItem rows (Some (change, set)) × AsksForJson rows is_json
-ArgumentsSay why rows (Run (Why gate snapshot change set is_all is_json)) =
-    HasArgument rows (codes "GATE") gate.now × HasArgument rows (codes "SNAPSHOT") snapshot.now × GivesItem rows change set
-    × (IsTrue is_all ↔ HasFlag rows (codes "all")) × AsksForJson rows is_json
-ArgumentsSay graph rows (Run (Graph gate snapshot around)) =
-    HasArgument rows (codes "GATE") gate.now × HasArgument rows (codes "SNAPSHOT") snapshot.now
-    × GivesAny rows (codes "around") 0 4294967295 around
-ArgumentsSay merge rows (Run (Merge first second)) =
-    HasArgument rows (codes "FIRST") first.now × HasArgument rows (codes "SECOND") second.now
-ArgumentsSay footers rows (Run (Footers gate message change is_json)) =
-    HasArgument rows (codes "GATE") gate.now × HasArgument rows (codes "FILE") message.now
-    × GivesNumber rows (codes "change") 0 4294967295 change × AsksForJson rows is_json
-ArgumentsSay check rows (Run (Check gate snapshot is_strict is_json)) =
-    HasArgument rows (codes "GATE") gate.now
-    × (first_of (codes "SNAPSHOT") rows ≡ option_map (λ name. name.now) snapshot)
-    × (IsTrue is_strict ↔ HasFlag rows (codes "strict")) × AsksForJson rows is_json
-ArgumentsSay simulate rows (Run (Simulate script gate)) =
-    HasArgument rows (codes "SCRIPT") script.now × (first_of (codes "GATE") rows ≡ option_map (λ name. name.now) gate)
+ArgumentsSay ready rows (Run (Ready command)) =
+    HasArgument rows (codes "GATE") command.gate.now × HasArgument rows (codes "SNAPSHOT") command.snapshot.now
+    × GivesAnyItem rows None × GivesFormat rows command.format
+ArgumentsSay ready rows (Run (ReadyItem command)) =
+    HasArgument rows (codes "GATE") command.gate.now × HasArgument rows (codes "SNAPSHOT") command.snapshot.now
+    × GivesAnyItem rows (Some (command.change, command.set)) × GivesFormat rows command.format
+ArgumentsSay why rows (Run (Why command)) =
+    HasArgument rows (codes "GATE") command.gate.now × HasArgument rows (codes "SNAPSHOT") command.snapshot.now
+    × GivesItem rows command.change command.set × GivesDetail rows command.detail × GivesFormat rows command.format
+ArgumentsSay graph rows (Run (Graph command)) =
+    HasArgument rows (codes "GATE") command.gate.now × HasArgument rows (codes "SNAPSHOT") command.snapshot.now
+    × GivesAny rows (codes "around") 0 4294967295 command.around
+ArgumentsSay merge rows (Run (Merge command)) =
+    HasArgument rows (codes "FIRST") command.first.now × HasArgument rows (codes "SECOND") command.second.now
+ArgumentsSay footers rows (Run (Footers command)) =
+    HasArgument rows (codes "GATE") command.gate.now × HasArgument rows (codes "FILE") command.message.now
+    × GivesNumber rows (codes "change") 0 4294967295 command.change × GivesFormat rows command.format
+ArgumentsSay check rows (Run (Check command)) =
+    HasArgument rows (codes "GATE") command.gate.now
+    × (first_of (codes "SNAPSHOT") rows ≡ option_map (λ name. name.now) command.snapshot)
+    × GivesStrictness rows command.strictness × GivesFormat rows command.format
+ArgumentsSay simulate rows (Run (Simulate command)) =
+    HasArgument rows (codes "SCRIPT") command.script.now
+    × (first_of (codes "GATE") rows ≡ option_map (λ name. name.now) command.gate)
 ArgumentsSay serve rows (Serve words) = IsSite rows words
 ArgumentsSay recover rows (Recover words) = IsRecovery rows words
 ArgumentsSay events rows (Events words) = IsFeed rows words

@@ -28,64 +28,140 @@ pub enum Asked<'a> {
 /// A command over files, which it reads before it prints its answer.
 #[derive(Drop)]
 pub enum Command<'a> {
-    /// To print the report of a snapshot under a gate file, as JSON where `is_json`.
-    Ready {
-        gate: &'a str,
-        snapshot: &'a str,
-        is_json: bool,
-    },
-    /// To print the line of an item of a snapshot in the report under a gate file: of the patch set `set` of the
-    /// change, or its current one; as JSON where `is_json`.
-    ReadyItem {
-        gate: &'a str,
-        snapshot: &'a str,
-        change: u32,
-        set: Option<u32>,
-        is_json: bool,
-    },
-    /// To print why an item of a snapshot waits under a gate file: the patch set `set` of the change, or its current
-    /// one; and each condition of the gate where `is_all`; as JSON where `is_json`.
-    Why {
-        gate: &'a str,
-        snapshot: &'a str,
-        change: u32,
-        set: Option<u32>,
-        is_all: bool,
-        is_json: bool,
-    },
-    /// To draw the items of a snapshot with what they wait for under a gate file: all of them, or those around a
-    /// change.
-    Graph {
-        gate: &'a str,
-        snapshot: &'a str,
-        around: Option<u32>,
-    },
-    /// To print the snapshot of the two of these names together.
-    Merge {
-        first: &'a str,
-        second: &'a str,
-    },
-    /// To print what the footers of a message ask for under a gate file's bases, as JSON where `is_json`; `change` is
-    /// the message's own, or 0.
-    Footers {
-        gate: &'a str,
-        message: &'a str,
-        change: u32,
-        is_json: bool,
-    },
-    /// To print what a gate file asks for, with warnings; of the record, too, where a snapshot is named; a warning is a
-    /// refusal where `is_strict`, and all is JSON where `is_json`.
-    Check {
-        gate: &'a str,
-        snapshot: Option<&'a str>,
-        is_strict: bool,
-        is_json: bool,
-    },
-    /// To play the script of this name, with reports under a gate file where one is named.
-    Simulate {
-        script: &'a str,
-        gate: Option<&'a str>,
-    },
+    /// To print the report of a snapshot.
+    Ready(ReadyCommand<'a>),
+    /// To print the line of an item in the report of a snapshot.
+    ReadyItem(ReadyItemCommand<'a>),
+    /// To print why an item of a snapshot waits.
+    Why(WhyCommand<'a>),
+    /// To draw the items of a snapshot with what they wait for.
+    Graph(GraphCommand<'a>),
+    /// To print one snapshot of two.
+    Merge(MergeCommand<'a>),
+    /// To print what the footers of a message ask for.
+    Footers(FootersCommand<'a>),
+    /// To print what a gate file asks for, with warnings.
+    Check(CheckCommand<'a>),
+    /// To play a script.
+    Simulate(SimulateCommand<'a>),
+}
+
+/// How an answer is written.
+#[derive(Clone, Copy, Debug, PartialEq, Eq)]
+pub enum OutputFormat {
+    /// As lines of text.
+    Text,
+    /// As one JSON object.
+    Json,
+}
+
+/// How much of the verdict on an item is explained.
+#[derive(Clone, Copy, Debug, PartialEq, Eq)]
+pub enum Detail {
+    /// Its cause.
+    Cause,
+    /// Its cause, and then each condition of the gate, met or broken.
+    AllConditions,
+}
+
+/// What the warnings of a check are.
+#[derive(Clone, Copy, Debug, PartialEq, Eq)]
+pub enum Strictness {
+    /// A part of the answer.
+    Lenient,
+    /// A refusal, too, once the answer is printed.
+    Strict,
+}
+
+/// What the report of a snapshot is printed with.
+#[derive(Drop)]
+pub struct ReadyCommand<'a> {
+    /// The gate file's name.
+    pub gate: &'a str,
+    /// The snapshot's name.
+    pub snapshot: &'a str,
+    pub format: OutputFormat,
+}
+
+/// What the line of an item is printed with.
+#[derive(Drop)]
+pub struct ReadyItemCommand<'a> {
+    /// The gate file's name.
+    pub gate: &'a str,
+    /// The snapshot's name.
+    pub snapshot: &'a str,
+    /// The number of the item's change.
+    pub change: u32,
+    /// The number of its patch set; without one it is the current patch set.
+    pub set: Option<u32>,
+    pub format: OutputFormat,
+}
+
+/// What an item is explained with.
+#[derive(Drop)]
+pub struct WhyCommand<'a> {
+    /// The gate file's name.
+    pub gate: &'a str,
+    /// The snapshot's name.
+    pub snapshot: &'a str,
+    /// The number of the item's change.
+    pub change: u32,
+    /// The number of its patch set; without one it is the current patch set.
+    pub set: Option<u32>,
+    pub detail: Detail,
+    pub format: OutputFormat,
+}
+
+/// What a graph is drawn of.
+#[derive(Drop)]
+pub struct GraphCommand<'a> {
+    /// The gate file's name.
+    pub gate: &'a str,
+    /// The snapshot's name.
+    pub snapshot: &'a str,
+    /// The change around whose items the graph is drawn; without one all items are.
+    pub around: Option<u32>,
+}
+
+/// What is merged.
+#[derive(Drop)]
+pub struct MergeCommand<'a> {
+    /// The name of a snapshot.
+    pub first: &'a str,
+    /// The name of another one.
+    pub second: &'a str,
+}
+
+/// What the footers of a message are read with.
+#[derive(Drop)]
+pub struct FootersCommand<'a> {
+    /// The name of the gate file, which has the bases.
+    pub gate: &'a str,
+    /// The name of the file of the message.
+    pub message: &'a str,
+    /// The number of the message's own change, or 0.
+    pub change: u32,
+    pub format: OutputFormat,
+}
+
+/// What a gate file is checked with.
+#[derive(Drop)]
+pub struct CheckCommand<'a> {
+    /// The gate file's name.
+    pub gate: &'a str,
+    /// The name of a snapshot, whose record is looked at, too.
+    pub snapshot: Option<&'a str>,
+    pub strictness: Strictness,
+    pub format: OutputFormat,
+}
+
+/// What a script is played with.
+#[derive(Drop)]
+pub struct SimulateCommand<'a> {
+    /// The script's name.
+    pub script: &'a str,
+    /// The name of the gate file under which reports are made.
+    pub gate: Option<&'a str>,
 }
 
 /// What a site is run with.

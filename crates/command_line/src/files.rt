@@ -2,11 +2,14 @@
 
 ghost use Rattle.command_tree.specs.Rows.{rows_in};
 ghost use Rattle.std.specs.Prelude.{IfOk, codes};
-ghost use Rattle.command_line.specs.Asking.{ArgumentsSay, IsRecovery, check, footers, graph, merge, ready, recover};
-ghost use Rattle.command_line.specs.Asking.{simulate, why};
+ghost use Rattle.command_line.specs.Asking.{ArgumentsSay, GivesDetail, GivesFormat, GivesStrictness, IsRecovery, check};
+ghost use Rattle.command_line.specs.Asking.{footers, graph, merge, ready, recover, simulate, why};
 ghost use Rattle.command_line.specs.Values.{Finds, GivesRows};
 
-use super::asked::{Asked, Command, RecoverWords};
+use super::asked::{
+    Asked, CheckCommand, Command, Detail, FootersCommand, GraphCommand, MergeCommand, OutputFormat,
+    ReadyCommand, ReadyItemCommand, RecoverWords, SimulateCommand, Strictness, WhyCommand,
+};
 use super::numbers::{any_in, any_item_in, any_long_in, item_in, long_in, rows_of_sites};
 use command_tree::{AROUND, CHANGE, UNTIL, Values};
 use std::alloc::{AllocError, Global};
@@ -17,20 +20,31 @@ pub fn ready_in<'a>(values: &Values<'a>) -> Option<Asked<'a>>
 {
     let gate = values.text("GATE")?;
     let snapshot = values.text("SNAPSHOT")?;
-    let is_json = values.flag("json");
+    let format = format_in(values);
     match any_item_in(values)? {
-        None => Some(Asked::Run(Command::Ready {
+        None => Some(Asked::Run(Command::Ready(ReadyCommand {
             gate,
             snapshot,
-            is_json,
-        })),
-        Some((change, set)) => Some(Asked::Run(Command::ReadyItem {
+            format,
+        }))),
+        Some((change, set)) => Some(Asked::Run(Command::ReadyItem(ReadyItemCommand {
             gate,
             snapshot,
             change,
             set,
-            is_json,
-        })),
+            format,
+        }))),
+    }
+}
+
+/// How the answer is to be written.
+fn format_in(values: &Values<'_>) -> OutputFormat
+    ensures { GivesFormat (rows_in values.now) result }
+{
+    if values.flag("json") {
+        OutputFormat::Json
+    } else {
+        OutputFormat::Text
     }
 }
 
@@ -41,15 +55,25 @@ pub fn why_in<'a>(values: &Values<'a>) -> Option<Asked<'a>>
     let gate = values.text("GATE")?;
     let snapshot = values.text("SNAPSHOT")?;
     let (change, set) = item_in(values)?;
-    let is_json = values.flag("json");
-    Some(Asked::Run(Command::Why {
+    Some(Asked::Run(Command::Why(WhyCommand {
         gate,
         snapshot,
         change,
         set,
-        is_all: values.flag("all"),
-        is_json,
-    }))
+        detail: detail_in(values),
+        format: format_in(values),
+    })))
+}
+
+/// How much is to be explained.
+fn detail_in(values: &Values<'_>) -> Detail
+    ensures { GivesDetail (rows_in values.now) result }
+{
+    if values.flag("all") {
+        Detail::AllConditions
+    } else {
+        Detail::Cause
+    }
 }
 
 /// `graph GATE SNAPSHOT [--around CHANGE]`
@@ -59,11 +83,11 @@ pub fn graph_in<'a>(values: &Values<'a>) -> Option<Asked<'a>>
     let gate = values.text("GATE")?;
     let snapshot = values.text("SNAPSHOT")?;
     let around = any_long_in(values, AROUND)?;
-    Some(Asked::Run(Command::Graph {
+    Some(Asked::Run(Command::Graph(GraphCommand {
         gate,
         snapshot,
         around,
-    }))
+    })))
 }
 
 /// `merge FIRST SECOND`
@@ -72,7 +96,7 @@ pub fn merge_in<'a>(values: &Values<'a>) -> Option<Asked<'a>>
 {
     let first = values.text("FIRST")?;
     let second = values.text("SECOND")?;
-    Some(Asked::Run(Command::Merge { first, second }))
+    Some(Asked::Run(Command::Merge(MergeCommand { first, second })))
 }
 
 /// `footers GATE FILE [--change N] [--json]`
@@ -82,12 +106,12 @@ pub fn footers_in<'a>(values: &Values<'a>) -> Option<Asked<'a>>
     let gate = values.text("GATE")?;
     let message = values.text("FILE")?;
     let change = long_in(values, CHANGE)?;
-    Some(Asked::Run(Command::Footers {
+    Some(Asked::Run(Command::Footers(FootersCommand {
         gate,
         message,
         change,
-        is_json: values.flag("json"),
-    }))
+        format: format_in(values),
+    })))
 }
 
 /// `check GATE [SNAPSHOT] [--strict] [--json]`
@@ -96,14 +120,23 @@ pub fn check_in<'a>(values: &Values<'a>) -> Option<Asked<'a>>
 {
     let gate = values.text("GATE")?;
     let snapshot = values.text("SNAPSHOT");
-    let is_strict = values.flag("strict");
-    let is_json = values.flag("json");
-    Some(Asked::Run(Command::Check {
+    Some(Asked::Run(Command::Check(CheckCommand {
         gate,
         snapshot,
-        is_strict,
-        is_json,
-    }))
+        strictness: strictness_in(values),
+        format: format_in(values),
+    })))
+}
+
+/// What warnings are to be.
+fn strictness_in(values: &Values<'_>) -> Strictness
+    ensures { GivesStrictness (rows_in values.now) result }
+{
+    if values.flag("strict") {
+        Strictness::Strict
+    } else {
+        Strictness::Lenient
+    }
 }
 
 /// `simulate SCRIPT [GATE]`
@@ -112,7 +145,7 @@ pub fn simulate_in<'a>(values: &Values<'a>) -> Option<Asked<'a>>
 {
     let script = values.text("SCRIPT")?;
     let gate = values.text("GATE");
-    Some(Asked::Run(Command::Simulate { script, gate }))
+    Some(Asked::Run(Command::Simulate(SimulateCommand { script, gate })))
 }
 
 /// `recover JOURNAL [--without SITE,START].. [--until TIME]`

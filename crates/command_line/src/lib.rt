@@ -10,7 +10,7 @@
 //! ```
 //! let words = ["ready", "gate.json", "record.snapshot"];
 //! let asked = read_words(alloc, &words);
-//! assert!(rt; matches!(asked, Asked::Run(Command::Ready { gate: "gate.json", .. })));
+//! assert!(rt; matches!(asked, Asked::Run(Command::Ready(ReadyCommand { gate: "gate.json", .. }))));
 //! ```
 #![tactic(auto)]
 
@@ -24,7 +24,9 @@ mod sites;
 mod words;
 
 pub use asked::{
-    Answer, Asked, Command, EnqueueWords, EventWords, PageAddress, Printing, RecoverWords,
-    ServeWords, SocketMode,
+    Answer, Asked, CheckCommand, Command, Detail, EnqueueWords, EventWords, FootersCommand,
+    GraphCommand, MergeCommand, OutputFormat, PageAddress, Printing, ReadyCommand,
+    ReadyItemCommand, RecoverWords, ServeWords, SimulateCommand, SocketMode, Strictness,
+    WhyCommand,
 };
 pub use words::read_words;

@@ -1,7 +1,8 @@
 -- How a check ends, by what was read and printed.
-use Rattle.std.proofs.Common.{◌≡◌, inl, inr, ℕ, List, [], ◌∷◌, Bool, Option, None, Some, Ok, Err, Bor, refl, ap, ◌∙◌}
+use Rattle.std.proofs.Common.{◌≡◌, inl, inr, ℕ, List, [], ◌∷◌, Option, None, Some, Ok, Err, Bor, refl, ap, ◌∙◌, subst, sym}
 use Rattle.std.specs.Prelude.{IsSomeAnd, option_map}
 use Rattle.byte_ends.specs.Lines.{lines_of}
+use Rattle.command_line.specs.declared.asked.CheckCommand.{CheckCommand}
 use Rattle.command_line.specs.declared.asked.Command.TheVariants.{Check}
 use Rattle.gate_rules.specs.Rules.{GateRules}
 use Rattle.gate_rules.specs.Spelling.{SpellsGate}
@@ -10,50 +11,58 @@ use Rattle.review_ops.specs.Operation.{Operation}
 use Rattle.snapshot_text.specs.Snapshot.{SaysOperations}
 use Rattle.state_core.specs.State.{State, state_of}
 use Rattle.console.specs.Console.{ConsoleState}
-use Rattle.console.specs.Inputs.{IsFirstRefused, IsHad, IsRefused, gate_file, input, record_input}
+use Rattle.console.specs.Inputs.{AreHad, IsFirstRefused, IsHad, IsRefused, gate_file, input, record_input}
 use Rattle.console.specs.Printing.{Ended, Prints}
 use Rattle.console.specs.declared.refusals.Refusal.{Refusal}
 use Rattle.commands.specs.Answers.{IsCheckText, IsRecordHad, SaysRecord}
-use Rattle.commands.specs.Ending.{Ends, Finishes, inputs_of}
+use Rattle.commands.specs.Ending.{Ends, Finishes, any_record, inputs_of}
 use Rattle.commands.proofs.OfRecord.{record_sound}
 use Rattle.commands.proofs.Simulated.{finishes_so}
 
-pub gate_refused : (gate : Bor (List ℕ)) (is_strict is_json : Bool) (snapshot : Option (Bor (List ℕ)))
-    (old new : ConsoleState) (refusal : Refusal)
+pub gate_refused : (gate : Bor (List ℕ)) (snapshot : Option (Bor (List ℕ))) (old new : ConsoleState) (refusal : Refusal)
     → IsRefused (input gate_file gate.now) old new refusal
-    → IsFirstRefused (inputs_of (Check gate snapshot is_strict is_json)) old new refusal
-gate_refused gate is_strict is_json None old new refusal refused = inl refused
-gate_refused gate is_strict is_json (Some snapshot) old new refusal refused = inl refused
+    → IsFirstRefused (input gate_file gate.now ∷ any_record snapshot) old new refusal
+gate_refused gate snapshot old new refusal refused = inl refused
 
-module _ (gate : Bor (List ℕ)) (is_strict is_json : Bool) (rules : GateRules) where
-  pub record_refused : (snapshot : Option (Bor (List ℕ))) (old mid new : ConsoleState) (refusal : Refusal)
-      → IsHad (input gate_file gate.now) (λ text. SpellsGate text rules) old mid
-      → IsSomeAnd snapshot (λ name. IsRefused (record_input name.now) mid new refusal)
-      → IsFirstRefused (inputs_of (Check gate snapshot is_strict is_json)) old new refusal
-  record_refused None old mid new refusal had refused = absurd refused
-  record_refused (Some snapshot) old mid new refusal had refused =
-      inr (mid, (had.0, had.1, (rules, had.2)), inl refused)
+pub record_refused : (gate : Bor (List ℕ)) (rules : GateRules) (snapshot : Option (Bor (List ℕ)))
+    (old mid new : ConsoleState) (refusal : Refusal)
+    → IsHad (input gate_file gate.now) (λ text. SpellsGate text rules) old mid
+    → IsSomeAnd snapshot (λ name. IsRefused (record_input name.now) mid new refusal)
+    → IsFirstRefused (input gate_file gate.now ∷ any_record snapshot) old new refusal
+record_refused gate rules None old mid new refusal had refused = absurd refused
+record_refused gate rules (Some snapshot) old mid new refusal had refused =
+    inr (mid, (had.0, had.1, (rules, had.2)), inl refused)
 
-  pub checked : (snapshot : Option (Bor (List ℕ))) (state : Option State) (old mid now new : ConsoleState) (ended : Ended)
-      → IsHad (input gate_file gate.now) (λ text. SpellsGate text rules) old mid
+module _ (command : CheckCommand) (rules : GateRules) where
+  -- the texts of the gate file and of the record
+  texts_had : (snapshot : Option (Bor (List ℕ))) (old new : ConsoleState) (texts : List (List ℕ))
+      → command.snapshot ≡ snapshot → AreHad (input gate_file command.gate.now ∷ any_record snapshot) old texts new
+      → AreHad (inputs_of (Check command)) old texts new
+  texts_had snapshot old new texts named had =
+      subst (λ (s : Option (Bor (List ℕ))). AreHad (input gate_file command.gate.now ∷ any_record s) old texts new) (sym named) had
+
+  pub checked : (snapshot : Option (Bor (List ℕ))) → command.snapshot ≡ snapshot → (state : Option State)
+      (old mid now new : ConsoleState) (ended : Ended)
+      → IsHad (input gate_file command.gate.now) (λ text. SpellsGate text rules) old mid
       → IsRecordHad (option_map (λ (name : Bor (List ℕ)). name.now) snapshot) state mid now
-      → Finishes (IsCheckText rules state is_strict is_json) now new ended
-      → Ends (Check gate snapshot is_strict is_json) old new ended
-  checked None None old mid now new ended had same finished =
+      → Finishes (IsCheckText command rules state) now new ended
+      → Ends (Check command) old new ended
+  checked None named None old mid now new ended had same finished =
       inr (
         had.0 ∷ [],
         now,
-        (mid, had.1, (rules, had.2), same),
-        finishes_so (IsCheckText rules None is_strict is_json) _ (λ answer end is. (rules, had.2, None, refl, is)) now new ended finished,
+        texts_had None old now (had.0 ∷ []) named (mid, had.1, (rules, had.2), same),
+        finishes_so (IsCheckText command rules None) _ (λ answer end is. (rules, had.2, None, refl, is)) now new ended finished,
       )
-  checked None (Some state) old mid now new ended had not finished = absurd not
-  checked (Some snapshot) None old mid now new ended had not finished = absurd not
-  checked (Some snapshot) (Some state) old mid now new ended had too finished =
+  checked None named (Some state) old mid now new ended had not finished = absurd not
+  checked (Some snapshot) named None old mid now new ended had not finished = absurd not
+  checked (Some snapshot) named (Some state) old mid now new ended had too finished =
       inr (
         had.0 ∷ too.0 ∷ [],
         now,
-        (mid, had.1, (rules, had.2), (now, too.1, record_sound snapshot.now too.0 too.2.0 too.2.1, refl)),
-        finishes_so (IsCheckText rules (Some state) is_strict is_json) _
+        texts_had (Some snapshot) old now (had.0 ∷ too.0 ∷ []) named
+            (mid, had.1, (rules, had.2), (now, too.1, record_sound snapshot.now too.0 too.2.0 too.2.1, refl)),
+        finishes_so (IsCheckText command rules (Some state)) _
             (λ answer end is. (rules, had.2, Some state, too.2, is)) now new ended finished,
       )
 

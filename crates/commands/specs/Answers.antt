@@ -18,7 +18,7 @@ use Rattle.state_core.specs.declared.item.Item.{Item}
 use Rattle.json.specs.Token.{Token}
 use Rattle.json_line.specs.Tokens.{json_line, numbers_listed, object_of, texts_listed}
 use Rattle.report_json.specs.Report.{out_item_tokens, ready_item_tokens, report_tokens}
-use Rattle.report_json.specs.Why.{IsWhyLine}
+use Rattle.report_json.specs.Why.{IsFullWhyLine, IsWhyLine}
 use Rattle.report_text.specs.Report.{out_line, ready_line, report_of}
 use Rattle.byte_ends.specs.Lines.{as_line}
 use Rattle.snapshot_text.specs.Snapshot.{SaysOperations, snapshot_text}
@@ -32,6 +32,16 @@ use Rattle.why_text.specs.All.{TellsConditions}
 use Rattle.why_text.specs.Asked.{IsItemAsked}
 use Rattle.why_text.specs.Why.{IsWhy}
 use Rattle.world_core.specs.World.{new_world}
+use Rattle.command_line.specs.declared.asked.CheckCommand.{CheckCommand}
+use Rattle.command_line.specs.declared.asked.Detail.{Detail}
+use Rattle.command_line.specs.declared.asked.Detail.TheVariants.{AllConditions, Cause}
+use Rattle.command_line.specs.declared.asked.FootersCommand.{FootersCommand}
+use Rattle.command_line.specs.declared.asked.OutputFormat.{OutputFormat}
+use Rattle.command_line.specs.declared.asked.OutputFormat.TheVariants.{Json, Text}
+use Rattle.command_line.specs.declared.asked.ReadyItemCommand.{ReadyItemCommand}
+use Rattle.command_line.specs.declared.asked.Strictness.{Strictness}
+use Rattle.command_line.specs.declared.asked.Strictness.TheVariants.{Strict}
+use Rattle.command_line.specs.declared.asked.WhyCommand.{WhyCommand}
 use Rattle.console.specs.Console.{ConsoleState}
 use Rattle.console.specs.Inputs.{IsHad, record_input}
 use Rattle.console.specs.Printing.{Ended}
@@ -69,14 +79,14 @@ MissesNone change set = ⊥
 
 -- ---- `ready`: the report of the state
 
--- the report of verdicts, as JSON where that is asked for
-abbrev pub report_as : Bool → Judged → List ℕ
-report_as true verdicts = json_line (report_tokens verdicts)
-report_as false verdicts = report_of verdicts
+-- the report of verdicts
+abbrev pub report_as : OutputFormat → Judged → List ℕ
+report_as Text verdicts = report_of verdicts
+report_as Json verdicts = json_line (report_tokens verdicts)
 
-abbrev pub IsReport : Bool → GateRules → State → List ℕ → Type 0
-IsReport is_json rules state answer =
-    (verdicts : Judged) × AreVerdicts rules state verdicts × (answer ≡ report_as is_json verdicts)
+abbrev pub IsReport : OutputFormat → GateRules → State → List ℕ → Type 0
+IsReport format rules state answer =
+    (verdicts : Judged) × AreVerdicts rules state verdicts × (answer ≡ report_as format verdicts)
 
 -- ---- `ready --item`: the line of an item in the report
 
@@ -88,29 +98,29 @@ abbrev pub IsItemText : ℕ → Option ℕ → ℕ → Option ℕ → Type 0
 IsItemText change set number other = (number ≡ change) × (other ≡ set)
 
 -- what is said of an item that is ready, and of one that is left out
-abbrev pub ready_as : Bool → Item → List ℕ
-ready_as true item = json_line (ready_item_tokens item)
-ready_as false item = ready_line item
+abbrev pub ready_as : OutputFormat → Item → List ℕ
+ready_as Text item = ready_line item
+ready_as Json item = json_line (ready_item_tokens item)
 
-abbrev pub out_as : Bool → Left → List ℕ
-out_as true left = json_line (out_item_tokens left)
-out_as false left = out_line left
+abbrev pub out_as : OutputFormat → Left → List ℕ
+out_as Text left = out_line left
+out_as Json left = json_line (out_item_tokens left)
 
 -- the item is left out, and the answer is its line
-abbrev pub IsLeftSo : Bool → List Left → Item → Bool → List ℕ → Type 0
-IsLeftSo is_json out item is_ready answer =
-    (is_ready ≡ false) × (left : Left) × Contains out left × (left.item ≡ item) × (answer ≡ out_as is_json left)
+abbrev pub IsLeftSo : OutputFormat → List Left → Item → Bool → List ℕ → Type 0
+IsLeftSo format out item is_ready answer =
+    (is_ready ≡ false) × (left : Left) × Contains out left × (left.item ≡ item) × (answer ≡ out_as format left)
 
 -- whether the item is ready, and its line
-abbrev pub StandsSo : Bool → Judged → Item → Bool → List ℕ → Type 0
-StandsSo is_json verdicts item is_ready answer =
-    ((is_ready ≡ true) × Contains verdicts.ready item × (answer ≡ ready_as is_json item))
-    ⊎ IsLeftSo is_json verdicts.out item is_ready answer
+abbrev pub StandsSo : OutputFormat → Judged → Item → Bool → List ℕ → Type 0
+StandsSo format verdicts item is_ready answer =
+    ((is_ready ≡ true) × Contains verdicts.ready item × (answer ≡ ready_as format item))
+    ⊎ IsLeftSo format verdicts.out item is_ready answer
 
-abbrev pub IsStanding : ℕ → Option ℕ → Bool → Bool → GateRules → State → List ℕ → Type 0
-IsStanding change set is_json is_ready rules state answer =
-    (item : Item) × (verdicts : Judged) × IsItemAsked state change set item × AreVerdicts rules state verdicts
-    × StandsSo is_json verdicts item is_ready answer
+abbrev pub IsStanding : ReadyItemCommand → Bool → GateRules → State → List ℕ → Type 0
+IsStanding command is_ready rules state answer =
+    (item : Item) × (verdicts : Judged) × IsItemAsked state command.change command.set item
+    × AreVerdicts rules state verdicts × StandsSo command.format verdicts item is_ready answer
 
 -- how `ready --item` ends: successfully for a ready item, with `Waits` for one that waits
 abbrev pub EndsItem : Bool → Ended → Type 0
@@ -119,44 +129,48 @@ EndsItem is_ready (Err Waits) = is_ready ≡ false
 EndsItem is_ready (Err refusal) = ⊥
 
 -- the line of the item is printed, and the command ends by that; or there is no such item, or memory was refused
-abbrev pub IsItemPrinted : ℕ → Option ℕ → Bool → GateRules → State → List ℕ → Ended → Type 0
-IsItemPrinted change set is_json rules state answer (Ok done) = IsStanding change set is_json true rules state answer
-IsItemPrinted change set is_json rules state answer (Err Waits) = IsStanding change set is_json false rules state answer
-IsItemPrinted change set is_json rules state answer (Err (NoItem number other)) =
-    IsItemText change set number other × (¬ HasItem change set state) × (answer ≡ [])
-IsItemPrinted change set is_json rules state answer (Err refusal) = (refusal ≡ Memory) × (answer ≡ [])
+abbrev pub IsItemPrinted : ReadyItemCommand → GateRules → State → List ℕ → Ended → Type 0
+IsItemPrinted command rules state answer (Ok done) = IsStanding command true rules state answer
+IsItemPrinted command rules state answer (Err Waits) = IsStanding command false rules state answer
+IsItemPrinted command rules state answer (Err (NoItem number other)) =
+    IsItemText command.change command.set number other × (¬ HasItem command.change command.set state) × (answer ≡ [])
+IsItemPrinted command rules state answer (Err refusal) = (refusal ≡ Memory) × (answer ≡ [])
 
-abbrev pub IsItemAnswer : List ℕ → List ℕ → ℕ → Option ℕ → Bool → List ℕ → Ended → Type 0
-IsItemAnswer gate snapshot change set is_json answer ended =
+abbrev pub IsItemAnswer : List ℕ → List ℕ → ReadyItemCommand → List ℕ → Ended → Type 0
+IsItemAnswer gate snapshot command answer ended =
     (rules : GateRules) × SpellsGate gate rules × (ops : List Operation) × SaysOperations (lines_of snapshot) ops
-    × IsItemPrinted change set is_json rules (state_of (all_arrived [] ops)) answer ended
+    × IsItemPrinted command rules (state_of (all_arrived [] ops)) answer ended
 
 -- ---- `why`: why an item waits, for which the text of the gate file is looked at, too
 
--- each condition of the gate after the reason, where that is asked for
-abbrev pub TellsMore : Bool → List ℕ → GateRules → State → Item → List ℕ → Type 0
-TellsMore false gate rules state item more = more ≡ []
-TellsMore true gate rules state item more = TellsConditions gate rules state item more
+-- what comes after the cause: nothing, or each condition of the gate
+abbrev pub TellsMore : Detail → List ℕ → GateRules → State → Item → List ℕ → Type 0
+TellsMore Cause gate rules state item more = more ≡ []
+TellsMore AllConditions gate rules state item more = TellsConditions gate rules state item more
 
-abbrev pub IsReasonText : List ℕ → Bool → GateRules → State → Judged → Item → List ℕ → Type 0
-IsReasonText gate is_all rules state verdicts item answer =
-    (reason more : List ℕ) × IsWhy gate rules state verdicts item reason × TellsMore is_all gate rules state item more
+abbrev pub IsReasonText : List ℕ → Detail → GateRules → State → Judged → Item → List ℕ → Type 0
+IsReasonText gate detail rules state verdicts item answer =
+    (reason more : List ℕ) × IsWhy gate rules state verdicts item reason × TellsMore detail gate rules state item more
     × (answer ≡ reason ++ more)
 
--- the reason as lines, or as JSON where that is asked for
-abbrev pub IsReasonAs : Bool → List ℕ → Bool → GateRules → State → Judged → Item → List ℕ → Type 0
-IsReasonAs true gate is_all rules state verdicts item answer = IsWhyLine is_all gate rules state verdicts item answer
-IsReasonAs false gate is_all rules state verdicts item answer =
-    IsReasonText gate is_all rules state verdicts item answer
+abbrev pub IsReasonLine : List ℕ → Detail → GateRules → State → Judged → Item → List ℕ → Type 0
+IsReasonLine gate Cause rules state verdicts item answer = IsWhyLine gate rules state verdicts item answer
+IsReasonLine gate AllConditions rules state verdicts item answer = IsFullWhyLine gate rules state verdicts item answer
 
-abbrev pub IsReasonFor : List ℕ → Bool → Bool → GateRules → State → Item → List ℕ → Type 0
-IsReasonFor gate is_all is_json rules state item answer =
+-- the reason by verdicts, as lines or as JSON
+abbrev pub IsReasonAs : OutputFormat → List ℕ → Detail → GateRules → State → Judged → Item → List ℕ → Type 0
+IsReasonAs Text gate detail rules state verdicts item answer = IsReasonText gate detail rules state verdicts item answer
+IsReasonAs Json gate detail rules state verdicts item answer = IsReasonLine gate detail rules state verdicts item answer
+
+abbrev pub IsReasonFor : List ℕ → Detail → OutputFormat → GateRules → State → Item → List ℕ → Type 0
+IsReasonFor gate detail format rules state item answer =
     (verdicts : Judged) × AreVerdicts rules state verdicts
-    × IsReasonAs is_json gate is_all rules state verdicts item answer
+    × IsReasonAs format gate detail rules state verdicts item answer
 
-abbrev pub IsWhyAnswer : List ℕ → ℕ → Option ℕ → Bool → Bool → GateRules → State → List ℕ → Type 0
-IsWhyAnswer gate change set is_all is_json rules state answer =
-    (item : Item) × IsItemAsked state change set item × IsReasonFor gate is_all is_json rules state item answer
+abbrev pub IsWhyAnswer : List ℕ → WhyCommand → GateRules → State → List ℕ → Type 0
+IsWhyAnswer gate command rules state answer =
+    (item : Item) × IsItemAsked state command.change command.set item
+    × IsReasonFor gate command.detail command.format rules state item answer
 
 -- ---- `graph`: the items and what they wait for, around a change of which a patch set is known, where one is named
 
@@ -211,18 +225,18 @@ footers_tokens bases needs ignored =
     (numbers_listed (codes "needs") needs
     ++ (texts_listed (codes "ignored") ignored ++ texts_listed (codes "bases") bases))
 
-abbrev pub footers_as : Bool → List (List ℕ) → List ℕ → List (List ℕ) → List ℕ
-footers_as true bases needs ignored = json_line (footers_tokens bases needs ignored)
-footers_as false bases needs ignored = footers_text needs ignored
+abbrev pub footers_as : OutputFormat → List (List ℕ) → List ℕ → List (List ℕ) → List ℕ
+footers_as Text bases needs ignored = footers_text needs ignored
+footers_as Json bases needs ignored = json_line (footers_tokens bases needs ignored)
 
 -- the answer has the changes that the message depends on under the gate's bases, and the footers that name none
-pub record AreFooterLines (gate message : List ℕ) (change : ℕ) (is_json : Bool) (answer : List ℕ) : Type 0 where
+pub record AreFooterLines (gate message : List ℕ) (command : FootersCommand) (answer : List ℕ) : Type 0 where
   pub rules : GateRules
   pub spelled : SpellsGate gate rules
   pub needs : List ℕ
   pub ignored : List (List ℕ)
-  pub footers : AreFooters rules.bases change message needs ignored
-  pub text : answer ≡ footers_as is_json rules.bases needs ignored
+  pub footers : AreFooters rules.bases command.change message needs ignored
+  pub text : answer ≡ footers_as command.format rules.bases needs ignored
 
 -- ---- `check`: what the gate asks for, and warnings, with the record of a snapshot, where one is named
 
@@ -243,27 +257,28 @@ IsRecordHad None None old new = new ≡ old
 IsRecordHad (Some name) (Some state) old new = IsHad (record_input name) (SaysRecord state) old new
 IsRecordHad name state old new = ⊥
 
--- how `check` ends, given whether it is strict and the number of warnings
-abbrev pub EndsChecked : Bool → ℕ → Ended → Type 0
-EndsChecked is_strict count (Ok done) = is_strict ≡ true → count ≡ 0
-EndsChecked is_strict count (Err (Warnings found)) = (is_strict ≡ true) × (found ≡ count) × (0 < count)
-EndsChecked is_strict count (Err refusal) = ⊥
+-- how `check` ends, by the number of warnings
+abbrev pub EndsChecked : Strictness → ℕ → Ended → Type 0
+EndsChecked strictness count (Ok done) = strictness ≡ Strict → count ≡ 0
+EndsChecked strictness count (Err (Warnings found)) = (strictness ≡ Strict) × (found ≡ count) × (0 < count)
+EndsChecked strictness count (Err refusal) = ⊥
 
--- what is said of the gate, as JSON where that is asked for
-abbrev pub check_as : Bool → GateRules → Option Evidence → List ℕ
-check_as true rules evidence = check_line rules evidence
-check_as false rules evidence = check_text rules evidence
+-- what is said of the gate
+abbrev pub check_as : OutputFormat → GateRules → Option Evidence → List ℕ
+check_as Text rules evidence = check_text rules evidence
+check_as Json rules evidence = check_line rules evidence
 
 -- that is printed, and the check ends by its warnings; or memory was refused before anything was printed
-abbrev pub IsCheckText : GateRules → Option State → Bool → Bool → List ℕ → Ended → Type 0
-IsCheckText rules state is_strict is_json answer ended =
-    ((count : ℕ) × IsCheck (check_as is_json) rules state answer count × EndsChecked is_strict count ended)
+abbrev pub IsCheckText : CheckCommand → GateRules → Option State → List ℕ → Ended → Type 0
+IsCheckText command rules state answer ended =
+    ((count : ℕ) × IsCheck (check_as command.format) rules state answer count
+    × EndsChecked command.strictness count ended)
     ⊎ ((answer ≡ []) × (ended ≡ Err Memory))
 
-abbrev pub IsChecked : List ℕ → List (List ℕ) → Bool → Bool → List ℕ → Ended → Type 0
-IsChecked gate snapshots is_strict is_json answer ended =
+abbrev pub IsChecked : List ℕ → List (List ℕ) → CheckCommand → List ℕ → Ended → Type 0
+IsChecked gate snapshots command answer ended =
     (rules : GateRules) × SpellsGate gate rules × (state : Option State) × GivesRecord snapshots state
-    × IsCheckText rules state is_strict is_json answer ended
+    × IsCheckText command rules state answer ended
 
 -- ---- `simulate`: the answers of the script's lines, in a run of the world
 

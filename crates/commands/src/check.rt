@@ -8,7 +8,7 @@ ghost use Rattle.commands.specs.Answers.{EndsChecked, IsCheckText, IsRecordHad, 
 ghost use Rattle.commands.specs.Ending.{Ends, Finishes};
 
 use super::record::state_from;
-use command_line::Command;
+use command_line::{CheckCommand, Command, OutputFormat, Strictness};
 use console::{Console, Refusal, read_gate, read_record};
 use gate_check::{CheckedLine, check_gate, check_line};
 use gate_rules::Gate;
@@ -19,24 +19,20 @@ use std::alloc::Global;
 use std::mem::ManuallyDrop;
 
 /// Prints what a gate file asks for, condition by condition, and warnings of what looks mistaken in it; where a
-/// snapshot is named, of names that its record hasn't got, too; as JSON where `is_json`. Refusals: those of the gate
-/// file, then of the snapshot; `Memory`, memory was refused once both were read; `Output`; `Warnings`, where
-/// `is_strict`, once all is printed: there are warnings. It costs what reading both costs, and what `check_gate` does.
+/// snapshot is named, of names that its record hasn't got, too. Refusals: those of the gate file, then of the snapshot;
+/// `Memory`, memory was refused once both were read; `Output`; `Warnings`, with `Strictness::Strict`, once all is
+/// printed: there are warnings. It costs what reading both costs, and what `check_gate` does.
 pub fn check<'n, C: Console>(
     alloc: Global,
-    gate: &'n str,
-    snapshot: Option<&'n str>,
-    is_strict: bool,
-    is_json: bool,
+    command: &CheckCommand<'n>,
     console: &mut C,
 ) -> Result<(), Refusal<'n>>
-    ensures { Ends (Command.Check gate.entry snapshot.entry is_strict is_json) (C.state console.old)
-        (C.state console.new) result }
+    ensures { Ends (Command.Check command.now) (C.state console.old) (C.state console.new) result }
 {
-    let rules = read_gate(alloc, gate, console)?;
-    let record = read_any_record(alloc, snapshot, console)?;
+    let rules = read_gate(alloc, command.gate, console)?;
+    let record = read_any_record(alloc, command.snapshot, console)?;
     let state = state_in(record)?;
-    let ended = print_check(alloc, &rules, state.as_ref(), is_strict, is_json, console);
+    let ended = print_check(alloc, &rules, state.as_ref(), command, console);
     // The program ends now, and the record's memory goes with it.
     let _kept = ManuallyDrop::new(state);
     ended
@@ -76,34 +72,41 @@ fn print_check<C: Console>(
     alloc: Global,
     rules: &Gate,
     state: Option<&State>,
-    is_strict: bool,
-    is_json: bool,
+    command: &CheckCommand<'_>,
     console: &mut C,
 ) -> Result<(), Refusal<'static>>
-    ensures { Finishes (IsCheckText rules.now (option_map (λ known. known.now) state.entry) is_strict is_json) (C.state console.old)
-        (C.state console.new) result }
+    ensures { Finishes (IsCheckText command.now rules.now (option_map (λ known. known.now) state.entry))
+        (C.state console.old) (C.state console.new) result }
 {
-    let Ok(checked) = checked_as(alloc, rules, state, is_json) else {
+    let Ok(checked) = checked_as(alloc, rules, state, command.format) else {
         return Err(Refusal::Memory);
     };
-    let ended = end_of(is_strict, checked.warnings);
+    let ended = end_of(command.strictness, checked.warnings);
     console.print(checked.line.as_slice())?;
     ended
 }
 
-/// What is printed of a gate, as JSON where `is_json`, and how many warnings there are.
+/// What is printed of a gate, and how many warnings there are.
 fn checked_as(
     alloc: Global,
     rules: &Gate,
     state: Option<&State>,
-    is_json: bool,
+    format: OutputFormat,
 ) -> Result<CheckedLine, NoMemory>
-    ensures { IfOk result (λ checked. IsCheck (check_as is_json) rules.now (option_map (λ known. known.now) state.entry)
+    ensures { IfOk result (λ checked. IsCheck (check_as format) rules.now (option_map (λ known. known.now) state.entry)
         checked.line.items checked.warnings) }
 {
-    if is_json {
-        return check_line(alloc, rules, state);
+    match format {
+        OutputFormat::Json => check_line(alloc, rules, state),
+        OutputFormat::Text => checked_text(alloc, rules, state),
     }
+}
+
+/// The lines that are printed of a gate, and how many warnings there are.
+fn checked_text(alloc: Global, rules: &Gate, state: Option<&State>) -> Result<CheckedLine, NoMemory>
+    ensures { IfOk result (λ checked. IsCheck (check_as OutputFormat.Text) rules.now
+        (option_map (λ known. known.now) state.entry) checked.line.items checked.warnings) }
+{
     let checked = check_gate(alloc, rules, state)?;
     Ok(CheckedLine {
         line: checked.text.into_bytes(),
@@ -112,10 +115,20 @@ fn checked_as(
 }
 
 /// How a check with so many warnings ends.
-fn end_of(is_strict: bool, warnings: usize) -> Result<(), Refusal<'static>>
-    ensures { EndsChecked is_strict warnings result }
+fn end_of(strictness: Strictness, warnings: usize) -> Result<(), Refusal<'static>>
+    ensures { EndsChecked strictness warnings result }
 {
-    if is_strict && warnings > 0 {
+    match strictness {
+        Strictness::Lenient => Ok(()),
+        Strictness::Strict => end_strictly(warnings),
+    }
+}
+
+/// How a strict check with so many warnings ends.
+fn end_strictly(warnings: usize) -> Result<(), Refusal<'static>>
+    ensures { EndsChecked Strictness.Strict warnings result }
+{
+    if warnings > 0 {
         return Err(Refusal::Warnings(warnings));
     }
     Ok(())

@@ -6,7 +6,7 @@ ghost use Rattle.json_line.specs.Tokens.{json_line};
 ghost use Rattle.commands.specs.Answers.{footers_as, footers_text, footers_tokens, ignored_line, need_line};
 ghost use Rattle.commands.specs.Ending.{Ends};
 
-use command_line::Command;
+use command_line::{Command, FootersCommand, OutputFormat};
 use console::{Console, Refusal, read_gate, read_message};
 use footer_text::{Bases, depends};
 use gate_rules::Gate;
@@ -16,23 +16,19 @@ use lattice_core::NoMemory;
 use std::alloc::Global;
 
 /// Prints what the footers of a message of the change say, 0 where it has no number: `need N` for each other change
-/// that they name, `ignored VALUE` for each other value, and `end` with the counts of both; where `is_json` the same as
-/// one JSON object, with the bases of the gate. Refusals: those of the gate file, then of the message; `Memory`, memory
-/// was refused once both were read; `Output`. It costs O(bytes of both).
+/// that they name, `ignored VALUE` for each other value, and `end` with the counts of both; or the same as one JSON
+/// object, with the bases of the gate. Refusals: those of the gate file, then of the message; `Memory`, memory was
+/// refused once both were read; `Output`. It costs O(bytes of both).
 pub fn footers<'n, C: Console>(
     alloc: Global,
-    gate: &'n str,
-    message: &'n str,
-    change: u32,
-    is_json: bool,
+    command: &FootersCommand<'n>,
     console: &mut C,
 ) -> Result<(), Refusal<'n>>
-    ensures { Ends (Command.Footers gate.entry message.entry change is_json) (C.state console.old)
-        (C.state console.new) result }
+    ensures { Ends (Command.Footers command.now) (C.state console.old) (C.state console.new) result }
 {
-    let rules = read_gate(alloc, gate, console)?;
-    let message = read_message(alloc, message, console)?;
-    let Ok(text) = text_under(alloc, &rules, change, message.as_str(), is_json) else {
+    let rules = read_gate(alloc, command.gate, console)?;
+    let message = read_message(alloc, command.message, console)?;
+    let Ok(text) = text_under(alloc, &rules, message.as_str(), command) else {
         return Err(Refusal::Memory);
     };
     console.print(text.as_slice())
@@ -42,22 +38,21 @@ pub fn footers<'n, C: Console>(
 fn text_under(
     alloc: Global,
     gate: &Gate,
-    change: u32,
     message: &str,
-    is_json: bool,
+    command: &FootersCommand<'_>,
 ) -> Result<Vec<u8>, NoMemory>
     ensures { IfOk result (λ text. (needs : List ℕ) × (ignored : List (List ℕ))
-        × AreFooters gate.now.bases change message.now needs ignored
-        × (text.items ≡ footers_as is_json gate.now.bases needs ignored)) }
+        × AreFooters gate.now.bases command.now.change message.now needs ignored
+        × (text.items ≡ footers_as command.now.format gate.now.bases needs ignored)) }
 {
     let bases = gate.bases();
-    let found = depends(alloc, bases, change, message)?;
+    let found = depends(alloc, bases, command.change, message)?;
     footers_as(
         alloc,
         bases,
         found.needs.as_slice(),
         found.ignored.as_slice(),
-        is_json,
+        command.format,
     )
 }
 
@@ -67,15 +62,15 @@ fn footers_as(
     bases: &Bases,
     needs: &[u32],
     ignored: &[&str],
-    is_json: bool,
+    format: OutputFormat,
 ) -> Result<Vec<u8>, NoMemory>
     ensures { IfOk result (λ text. text.items
-        ≡ footers_as is_json bases.now needs.now (map (λ value. value.now) ignored.now)) }
+        ≡ footers_as format bases.now needs.now (map (λ value. value.now) ignored.now)) }
 {
-    if is_json {
-        return footers_line(alloc, bases, needs, ignored);
+    match format {
+        OutputFormat::Json => footers_line(alloc, bases, needs, ignored),
+        OutputFormat::Text => footers_text(alloc, needs, ignored),
     }
-    footers_text(alloc, needs, ignored)
 }
 
 /// The line of both and of the bases.

@@ -6,7 +6,7 @@ ghost use Rattle.commands.specs.Answers.{HasAround, IsRefusedAround};
 ghost use Rattle.commands.specs.Ending.{Ends};
 
 use super::record::state_from;
-use command_line::Command;
+use command_line::{Command, GraphCommand};
 use console::{Console, Refusal, read_gate, read_record};
 use gate_rules::Gate;
 use graph_text::graph_text;
@@ -16,23 +16,20 @@ use std::alloc::Global;
 use std::mem::ManuallyDrop;
 
 /// Prints the items of a snapshot and what they wait for under a gate, as a graph in the DOT language: all of them, or
-/// what leads to the items of the change `around` and what these lead to. Refusals: those of the gate file, then of
+/// what leads to the items of the change `around` and what these lead to, where one is named. Refusals: those of the gate file, then of
 /// the snapshot; `NoItem`, no patch set of that change is known; `Memory`, memory was refused once both were read;
 /// `Output`. It costs what reading both costs, and what `graph_text` does.
 pub fn graph<'n, C: Console>(
     alloc: Global,
-    gate: &'n str,
-    snapshot: &'n str,
-    around: Option<u32>,
+    command: &GraphCommand<'n>,
     console: &mut C,
 ) -> Result<(), Refusal<'n>>
-    ensures { Ends (Command.Graph gate.entry snapshot.entry around)
-        (C.state console.old) (C.state console.new) result }
+    ensures { Ends (Command.Graph command.now) (C.state console.old) (C.state console.new) result }
 {
-    let rules = read_gate(alloc, gate, console)?;
-    let gathering = read_record(Gathering::new(alloc), snapshot, console)?;
+    let rules = read_gate(alloc, command.gate, console)?;
+    let gathering = read_record(Gathering::new(alloc), command.snapshot, console)?;
     let state = state_from(gathering)?;
-    let picture = picture_of(alloc, &rules, &state, around);
+    let picture = picture_of(alloc, &rules, &state, command.around);
     // The program ends now, and the record's memory goes with it.
     let _kept = ManuallyDrop::new(state);
     match picture {

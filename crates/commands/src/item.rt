@@ -4,7 +4,7 @@ ghost use Rattle.std.specs.Prelude.{◌≡◌, ◌⊎◌, ◌++◌, Contains, If
 ghost use Rattle.std.specs.List.Sorted.{IsStrictlySortedBy};
 ghost use Rattle.ready_core.specs.Verdicts.{items_out};
 ghost use Rattle.report_text.specs.Pages.{HasRoom};
-ghost use Rattle.report_text.specs.Report.{ready_line};
+ghost use Rattle.report_text.specs.Report.{out_line, ready_line};
 ghost use Rattle.state_core.specs.Items.{item_cmp};
 ghost use Rattle.state_core.specs.declared.item.Item.{Item};
 ghost use Rattle.why_text.specs.Asked.{IsItemAsked};
@@ -12,7 +12,7 @@ ghost use Rattle.commands.specs.Answers.{EndsItem, IsItemPrinted, IsLeftSo, IsSt
 ghost use Rattle.commands.specs.Ending.{Ends, Finishes};
 
 use super::record::state_from;
-use command_line::Command;
+use command_line::{Command, OutputFormat, ReadyItemCommand};
 use console::{Console, Refusal, read_gate, read_record};
 use gate_rules::Gate;
 use lattice_core::NoMemory;
@@ -32,26 +32,21 @@ struct Standing {
     is_ready: bool,
 }
 
-/// Prints the line of an item in the report of a snapshot under a gate: of the patch set `set` of the change, or of its
-/// current one where none is named; as JSON where `is_json`. Refusals: those of the gate file, then of the snapshot;
-/// `NoItem`, the item isn't known; `Memory`, memory was refused once both were read; `Output`; `Waits`, the item isn't
-/// ready, and the line that says why was printed. It costs what reading both costs, and what `evaluate` does.
+/// Prints the line of an item in the report of a snapshot under a gate. Refusals: those of the gate file, then of the
+/// snapshot; `NoItem`, the item isn't known; `Memory`, memory was refused once both were read; `Output`; `Waits`, the
+/// item isn't ready, and the line that says why was printed. It costs what reading both costs, and what `evaluate`
+/// does.
 pub fn ready_item<'n, C: Console>(
     alloc: Global,
-    gate: &'n str,
-    snapshot: &'n str,
-    change: u32,
-    set: Option<u32>,
-    is_json: bool,
+    command: &ReadyItemCommand<'n>,
     console: &mut C,
 ) -> Result<(), Refusal<'n>>
-    ensures { Ends (Command.ReadyItem gate.entry snapshot.entry change set is_json)
-        (C.state console.old) (C.state console.new) result }
+    ensures { Ends (Command.ReadyItem command.now) (C.state console.old) (C.state console.new) result }
 {
-    let rules = read_gate(alloc, gate, console)?;
-    let gathering = read_record(Gathering::new(alloc), snapshot, console)?;
+    let rules = read_gate(alloc, command.gate, console)?;
+    let gathering = read_record(Gathering::new(alloc), command.snapshot, console)?;
     let state = state_from(gathering)?;
-    let printed = print_item(alloc, &rules, &state, change, set, is_json, console);
+    let printed = print_item(alloc, &rules, &state, command, console);
     // The program ends now, and the record's memory goes with it.
     let _kept = ManuallyDrop::new(state);
     printed
@@ -62,14 +57,12 @@ fn print_item<C: Console>(
     alloc: Global,
     rules: &Gate,
     state: &State,
-    change: u32,
-    set: Option<u32>,
-    is_json: bool,
+    command: &ReadyItemCommand<'_>,
     console: &mut C,
 ) -> Result<(), Refusal<'static>>
-    ensures { Finishes (IsItemPrinted change set is_json rules.now state.now) (C.state console.old) (C.state console.new) result }
+    ensures { Finishes (IsItemPrinted command.now rules.now state.now) (C.state console.old) (C.state console.new) result }
 {
-    let standing = match standing_of(alloc, rules, state, change, set, is_json) {
+    let standing = match standing_of(alloc, rules, state, command) {
         Ok(standing) => standing,
         Err(refusal) => return Err(refusal),
     };
@@ -94,23 +87,21 @@ fn standing_of(
     alloc: Global,
     rules: &Gate,
     state: &State,
-    change: u32,
-    set: Option<u32>,
-    is_json: bool,
+    command: &ReadyItemCommand<'_>,
 ) -> Result<Standing, Refusal<'static>>
     ensures standing { IfOk result
-        (λ standing. IsStanding change set is_json standing.is_ready rules.now state.now standing.line.items) }
-    ensures refused { IfErr result (λ refusal.
-        ((refusal ≡ Refusal.NoItem change set) × ((item : Item) → ¬ IsItemAsked state.now change set item))
+        (λ standing. IsStanding command.now standing.is_ready rules.now state.now standing.line.items) }
+    ensures refused { IfErr result (λ refusal. ((refusal ≡ Refusal.NoItem command.now.change command.now.set)
+        × ((item : Item) → ¬ IsItemAsked state.now command.now.change command.now.set item))
         ⊎ (refusal ≡ Refusal.Memory)) }
 {
-    let Some(item) = item_asked(state, change, set) else {
-        return Err(Refusal::NoItem(change, set));
+    let Some(item) = item_asked(state, command.change, command.set) else {
+        return Err(Refusal::NoItem(command.change, command.set));
     };
     let Ok(verdicts) = evaluate(alloc, state, rules) else {
         return Err(Refusal::Memory);
     };
-    match standing_in(alloc, &verdicts, item, is_json) {
+    match standing_in(alloc, &verdicts, item, command.format) {
         Ok(standing) => Ok(standing),
         Err(_) => Err(Refusal::Memory),
     }
@@ -121,37 +112,44 @@ fn standing_in(
     alloc: Global,
     verdicts: &Verdicts,
     item: Item,
-    is_json: bool,
+    format: OutputFormat,
 ) -> Result<Standing, NoMemory>
     requires sorted { IsStrictlySortedBy item_cmp (items_out verdicts.now.out) }
     requires there { ¬ Contains verdicts.now.ready item → Contains (items_out verdicts.now.out) item }
-    ensures { IfOk result (λ standing. StandsSo is_json verdicts.now item standing.is_ready standing.line.items) }
+    ensures { IfOk result (λ standing. StandsSo format verdicts.now item standing.is_ready standing.line.items) }
 {
     if verdicts.ready().contains(&item) {
-        return ready_so(alloc, item, is_json);
+        return ready_so(alloc, item, format);
     }
-    left_in(alloc, verdicts.out(), item, is_json)
+    left_in(alloc, verdicts.out(), item, format)
 }
 
 /// The verdict on an item that is ready.
-fn ready_so(alloc: Global, item: Item, is_json: bool) -> Result<Standing, NoMemory>
+fn ready_so(alloc: Global, item: Item, format: OutputFormat) -> Result<Standing, NoMemory>
     ensures { IfOk result
-        (λ standing. (standing.is_ready ≡ true) × (standing.line.items ≡ ready_as is_json item)) }
+        (λ standing. (standing.is_ready ≡ true) × (standing.line.items ≡ ready_as format item)) }
 {
-    let line = ready_text(alloc, item, is_json)?;
+    let line = ready_answer(alloc, item, format)?;
     Ok(Standing {
         line,
         is_ready: true,
     })
 }
 
-/// What is said of an item that is ready.
-fn ready_text(alloc: Global, item: Item, is_json: bool) -> Result<Vec<u8>, NoMemory>
-    ensures { IfOk result (λ line. line.items ≡ ready_as is_json item) }
+/// What is printed of an item that is ready.
+fn ready_answer(alloc: Global, item: Item, format: OutputFormat) -> Result<Vec<u8>, NoMemory>
+    ensures { IfOk result (λ line. line.items ≡ ready_as format item) }
 {
-    if is_json {
-        return ready_item_line(alloc, item);
+    match format {
+        OutputFormat::Json => ready_item_line(alloc, item),
+        OutputFormat::Text => ready_text(alloc, item),
     }
+}
+
+/// The line of an item that is ready.
+fn ready_text(alloc: Global, item: Item) -> Result<Vec<u8>, NoMemory>
+    ensures { IfOk result (λ line. line.items ≡ ready_line item) }
+{
     let mut page = Page::new();
     add_ready(&mut page, item);
     bytes_of(alloc, &page)
@@ -177,28 +175,40 @@ fn bytes_of(alloc: Global, page: &Page) -> Result<Vec<u8>, NoMemory>
 }
 
 /// The verdict on an item that is left out.
-fn left_in(alloc: Global, out: &[Left], item: Item, is_json: bool) -> Result<Standing, NoMemory>
+fn left_in(
+    alloc: Global,
+    out: &[Left],
+    item: Item,
+    format: OutputFormat,
+) -> Result<Standing, NoMemory>
     requires sorted { IsStrictlySortedBy item_cmp (items_out out.now) }
     requires there { Contains (items_out out.now) item }
-    ensures { IfOk result (λ standing. IsLeftSo is_json out.now item standing.is_ready standing.line.items) }
+    ensures { IfOk result (λ standing. IsLeftSo format out.now item standing.is_ready standing.line.items) }
 {
     let Some(place) = place_out(out, item) else {
         unreachable!()
     };
-    let line = out_text(alloc, &out[place], is_json)?;
+    let line = out_answer(alloc, &out[place], format)?;
     Ok(Standing {
         line,
         is_ready: false,
     })
 }
 
-/// What is said of an item that is left out.
-fn out_text(alloc: Global, left: &Left, is_json: bool) -> Result<Vec<u8>, NoMemory>
-    ensures { IfOk result (λ line. line.items ≡ out_as is_json left.now) }
+/// What is printed of an item that is left out.
+fn out_answer(alloc: Global, left: &Left, format: OutputFormat) -> Result<Vec<u8>, NoMemory>
+    ensures { IfOk result (λ line. line.items ≡ out_as format left.now) }
 {
-    if is_json {
-        return out_item_line(alloc, left);
+    match format {
+        OutputFormat::Json => out_item_line(alloc, left),
+        OutputFormat::Text => out_text(alloc, left),
     }
+}
+
+/// The line of an item that is left out.
+fn out_text(alloc: Global, left: &Left) -> Result<Vec<u8>, NoMemory>
+    ensures { IfOk result (λ line. line.items ≡ out_line left.now) }
+{
     let mut page = Page::new();
     add_out(&mut page, left);
     bytes_of(alloc, &page)

@@ -2,7 +2,7 @@
 
 ghost use Rattle.commands.specs.Ending.{Ends};
 
-use command_line::Command;
+use command_line::{Command, MergeCommand};
 use console::{Console, Refusal, read_record};
 use replica_core::{Gathering, operations_arrive_as_a_set};
 use std::alloc::Global;
@@ -14,15 +14,14 @@ use std::mem::ManuallyDrop;
 /// costs.
 pub fn merge<'n, C: Console>(
     alloc: Global,
-    first: &'n str,
-    second: &'n str,
+    command: &MergeCommand<'n>,
     console: &mut C,
 ) -> Result<(), Refusal<'n>>
-    ensures { Ends (Command.Merge first.entry second.entry) (C.state console.old) (C.state console.new) result }
+    ensures { Ends (Command.Merge command.now) (C.state console.old) (C.state console.new) result }
 {
     operations_arrive_as_a_set();
-    let gathering = read_record(Gathering::new(alloc), first, console)?;
-    let both = read_record(gathering, second, console)?;
+    let gathering = read_record(Gathering::new(alloc), command.first, console)?;
+    let both = read_record(gathering, command.second, console)?;
     let printed = console.print_snapshot(alloc, &both);
     // The program ends now, and the record's memory goes with it.
     let _kept = ManuallyDrop::new(both);

@@ -1,11 +1,11 @@
 //! Prints the report of a snapshot under a gate.
 
-ghost use Rattle.std.specs.Prelude.{◌≡◌, true, false};
+ghost use Rattle.std.specs.Prelude.{◌≡◌};
 ghost use Rattle.commands.specs.Answers.{IsPrintedWhole, MissesNone, report_as};
 ghost use Rattle.commands.specs.Ending.{Ends, Finishes};
 
 use super::record::state_from;
-use command_line::Command;
+use command_line::{Command, OutputFormat, ReadyCommand};
 use console::{Console, Refusal, read_gate, read_record};
 use ready_core::{Verdicts, evaluate};
 use replica_core::Gathering;
@@ -13,46 +13,43 @@ use report_json::report_line;
 use std::alloc::Global;
 use std::mem::ManuallyDrop;
 
-/// Prints which items of a snapshot may be enqueued under a gate, and why each other one waits, as JSON where
-/// `is_json`. Refusals: those of the gate file, then of the snapshot; `Memory`, memory was refused once both were read;
-/// `Output`. It costs what reading both costs, and what `evaluate` and `write_report` or `report_line` do.
+/// Prints which items of a snapshot may be enqueued under a gate, and why each other one waits. Refusals: those of the
+/// gate file, then of the snapshot; `Memory`, memory was refused once both were read; `Output`. It costs what reading
+/// both costs, and what `evaluate` and `write_report` or `report_line` do.
 pub fn ready<'n, C: Console>(
     alloc: Global,
-    gate: &'n str,
-    snapshot: &'n str,
-    is_json: bool,
+    command: &ReadyCommand<'n>,
     console: &mut C,
 ) -> Result<(), Refusal<'n>>
-    ensures { Ends (Command.Ready gate.entry snapshot.entry is_json) (C.state console.old)
-        (C.state console.new) result }
+    ensures { Ends (Command.Ready command.now) (C.state console.old) (C.state console.new) result }
 {
-    let rules = read_gate(alloc, gate, console)?;
-    let gathering = read_record(Gathering::new(alloc), snapshot, console)?;
+    let rules = read_gate(alloc, command.gate, console)?;
+    let gathering = read_record(Gathering::new(alloc), command.snapshot, console)?;
     let state = state_from(gathering)?;
     let Ok(verdicts) = evaluate(alloc, &state, &rules) else {
         return Err(Refusal::Memory);
     };
-    let printed = print_verdicts(alloc, &verdicts, is_json, console);
+    let printed = print_verdicts(alloc, &verdicts, command.format, console);
     // The program ends now, and the record's memory goes with it: giving back each text costs time.
     let _kept = ManuallyDrop::new(state);
     printed
 }
 
-/// Prints the report of verdicts, as JSON where `is_json`.
+/// Prints the report of verdicts.
 fn print_verdicts<C: Console>(
     alloc: Global,
     verdicts: &Verdicts,
-    is_json: bool,
+    format: OutputFormat,
     console: &mut C,
 ) -> Result<(), Refusal<'static>>
-    ensures { Finishes (IsPrintedWhole (λ answer. answer ≡ report_as is_json verdicts.now) MissesNone)
+    ensures { Finishes (IsPrintedWhole (λ answer. answer ≡ report_as format verdicts.now) MissesNone)
         (C.state console.old)
         (C.state console.new) result }
 {
-    if is_json {
-        return print_line(alloc, verdicts, console);
+    match format {
+        OutputFormat::Json => print_line(alloc, verdicts, console),
+        OutputFormat::Text => print_text(verdicts, console),
     }
-    print_text(verdicts, console)
 }
 
 /// Prints the report of verdicts as JSON.
@@ -61,7 +58,7 @@ fn print_line<C: Console>(
     verdicts: &Verdicts,
     console: &mut C,
 ) -> Result<(), Refusal<'static>>
-    ensures { Finishes (IsPrintedWhole (λ answer. answer ≡ report_as true verdicts.now) MissesNone)
+    ensures { Finishes (IsPrintedWhole (λ answer. answer ≡ report_as OutputFormat.Json verdicts.now) MissesNone)
         (C.state console.old)
         (C.state console.new) result }
 {
@@ -73,7 +70,7 @@ fn print_line<C: Console>(
 
 /// Prints the text of the report of verdicts.
 fn print_text<C: Console>(verdicts: &Verdicts, console: &mut C) -> Result<(), Refusal<'static>>
-    ensures { Finishes (IsPrintedWhole (λ answer. answer ≡ report_as false verdicts.now) MissesNone)
+    ensures { Finishes (IsPrintedWhole (λ answer. answer ≡ report_as OutputFormat.Text verdicts.now) MissesNone)
         (C.state console.old)
         (C.state console.new) result }
 {

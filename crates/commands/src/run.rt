@@ -82,47 +82,14 @@ fn do_command<'n, C: Console>(
     ensures { Ends command.now (C.state console.old) (C.state console.new) result }
 {
     match command {
-        Command::Simulate { script, gate } => simulate(alloc, script, *gate, console),
-        Command::Ready {
-            gate,
-            snapshot,
-            is_json,
-        } => ready(alloc, gate, snapshot, *is_json, console),
-        Command::ReadyItem {
-            gate,
-            snapshot,
-            change,
-            set,
-            is_json,
-        } => ready_item(alloc, gate, snapshot, *change, *set, *is_json, console),
-        Command::Merge { first, second } => merge(alloc, first, second, console),
-        Command::Footers {
-            gate,
-            message,
-            change,
-            is_json,
-        } => footers(alloc, gate, message, *change, *is_json, console),
-        Command::Why {
-            gate,
-            snapshot,
-            change,
-            set,
-            is_all,
-            is_json,
-        } => why(
-            alloc, gate, snapshot, *change, *set, *is_all, *is_json, console,
-        ),
-        Command::Graph {
-            gate,
-            snapshot,
-            around,
-        } => graph(alloc, gate, snapshot, *around, console),
-        Command::Check {
-            gate,
-            snapshot,
-            is_strict,
-            is_json,
-        } => check(alloc, gate, *snapshot, *is_strict, *is_json, console),
+        Command::Simulate(command) => simulate(alloc, command, console),
+        Command::Ready(command) => ready(alloc, command, console),
+        Command::ReadyItem(command) => ready_item(alloc, command, console),
+        Command::Merge(command) => merge(alloc, command, console),
+        Command::Footers(command) => footers(alloc, command, console),
+        Command::Why(command) => why(alloc, command, console),
+        Command::Graph(command) => graph(alloc, command, console),
+        Command::Check(command) => check(alloc, command, console),
     }
 }
 

@@ -5,7 +5,7 @@ ghost use Rattle.std.specs.Option.{option_copied};
 ghost use Rattle.commands.specs.Ending.{Ends, Finishes};
 ghost use Rattle.commands.specs.Answers.{IsPlayed, IsPlayedText};
 
-use command_line::Command;
+use command_line::{Command, SimulateCommand};
 use console::{Console, Refusal, read_any_gate, read_script};
 use gate_rules::Gate;
 use script_play::{play_step, the_same_operations_print_the_same};
@@ -21,15 +21,14 @@ use world_core::World;
 /// costs what reading and the events cost.
 pub fn simulate<'n, C: Console>(
     alloc: Global,
-    script: &'n str,
-    gate: Option<&'n str>,
+    command: &SimulateCommand<'n>,
     console: &mut C,
 ) -> Result<(), Refusal<'n>>
-    ensures { Ends (Command.Simulate script.entry gate.entry) (C.state console.old) (C.state console.new) result }
+    ensures { Ends (Command.Simulate command.now) (C.state console.old) (C.state console.new) result }
 {
     the_same_operations_print_the_same::<Global>();
-    let text = read_script(alloc, script, console)?;
-    let rules = read_any_gate(alloc, gate, console)?;
+    let text = read_script(alloc, command.script, console)?;
+    let rules = read_any_gate(alloc, command.gate, console)?;
     play_text(alloc, text.as_slice(), rules.as_ref(), console)
 }
 

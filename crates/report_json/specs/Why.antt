@@ -1,5 +1,5 @@
 -- Why an item waits as JSON, by its tokens: the same chain as the lines of `why`. The keys are the project's own.
-use Rattle.std.specs.Prelude.{◌≡◌, ◌⊎◌, ℕ, Bool, true, false, not, List, [], ◌∷◌, ◌++◌, Option, None, Some, Contains}
+use Rattle.std.specs.Prelude.{◌≡◌, ◌⊎◌, ℕ, true, not, List, [], ◌∷◌, ◌++◌, Option, None, Some, Contains}
 use Rattle.std.specs.Prelude.{codes, flat_map}
 use Rattle.serde_json.specs.Data.{Data}
 use Rattle.serde_json.specs.Written.{compact_text}
@@ -122,22 +122,23 @@ pub record SaysConditions (file : List ℕ) (gate : GateRules) (state : State) (
   pub each : TellsEach (SaysTried file state item) tried objects
   pub members : added ≡ listed_tokens (codes "conditions") objects
 
--- those, where they are asked for
-abbrev pub SaysConditionsIf : Bool → List ℕ → GateRules → State → Item → List Token → Type 0
-SaysConditionsIf false file gate state item added = added ≡ []
-SaysConditionsIf true file gate state item added = SaysConditions file gate state item added
-
 -- ---- the whole line
 
 -- {"change":98,"set":3,"ready":false,"refusal":"require open","why":[{"change":98,"set":3,"refusal":"require open",
 -- "want":true,"status":"MERGED"}]}
 pub record IsWhyLine
-    (is_all : Bool) (file : List ℕ) (gate : GateRules) (state : State) (verdicts : Judged) (item : Item)
-    (line : List ℕ)
-    : Type 0 where
+    (file : List ℕ) (gate : GateRules) (state : State) (verdicts : Judged) (item : Item) (line : List ℕ) : Type 0 where
+  pub reason : List Token
+  pub is_reason : SaysWhy file gate state verdicts item reason
+  pub text : line ≡ json_line (object_of reason)
+  pub reads : AreReadBack (object_of reason)
+
+-- the same, and then each condition of the gate
+pub record IsFullWhyLine
+    (file : List ℕ) (gate : GateRules) (state : State) (verdicts : Judged) (item : Item) (line : List ℕ) : Type 0 where
   pub reason : List Token
   pub is_reason : SaysWhy file gate state verdicts item reason
   pub more : List Token
-  pub is_more : SaysConditionsIf is_all file gate state item more
+  pub is_more : SaysConditions file gate state item more
   pub text : line ≡ json_line (object_of (reason ++ more))
   pub reads : AreReadBack (object_of (reason ++ more))

@@ -6,7 +6,7 @@ ghost use Rattle.json.specs.Token.{Token};
 ghost use Rattle.json_line.specs.Tokens.{AddsTokens};
 ghost use Rattle.state_core.specs.Items.{IsItem};
 ghost use Rattle.why_text.specs.All.{TellsEach};
-ghost use Rattle.report_json.specs.Why.{SaysConditions, SaysConditionsIf, SaysTried};
+ghost use Rattle.report_json.specs.Why.{SaysConditions, SaysTried};
 
 use super::asked::put_asked;
 use gate_rules::{Gate, Tried};
@@ -18,29 +18,8 @@ use state_core::{Item, State};
 use std::alloc::Global;
 use why_text::refusal_words;
 
-/// Adds each condition of the gate where `is_all`, in the order in which an item is judged by them.
-pub(super) fn put_more(
-    alloc: Global,
-    out: &mut Writer<Global>,
-    file: &[u8],
-    gate: &Gate,
-    state: &State,
-    item: Item,
-    is_all: bool,
-) -> Result<(), NoMemory>
-    requires spelled { SpellsGate file.now gate.now }
-    requires there { IsItem state.now item }
-    ensures { OnOk result ((added : List Token) × AddsTokens out.old out.new added
-        × SaysConditionsIf is_all file.now gate.now state.now item added) }
-{
-    if !is_all {
-        return Ok(());
-    }
-    put_conditions(alloc, out, file, gate, state, item)
-}
-
-/// Adds the list of the conditions.
-fn put_conditions(
+/// Adds the list of the conditions of the gate, in the order in which an item is judged by them.
+pub(super) fn put_conditions(
     alloc: Global,
     out: &mut Writer<Global>,
     file: &[u8],

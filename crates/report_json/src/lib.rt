@@ -23,4 +23,4 @@ mod why;
 
 pub use items::{out_item_line, ready_item_line};
 pub use report::report_line;
-pub use why::why_line;
+pub use why::{full_why_line, why_line};

@@ -6,10 +6,11 @@ ghost use Rattle.json.specs.Token.{Token};
 ghost use Rattle.json_line.specs.Tokens.{AddsTokens};
 ghost use Rattle.ready_core.specs.Verdicts.{AreVerdicts, items_out};
 ghost use Rattle.state_core.specs.Items.{IsItem};
-ghost use Rattle.report_json.specs.Why.{IsWhyLine, SaysCause, SaysCycle, SaysLeft, SaysWhy, cause_tokens, ready_members};
+ghost use Rattle.report_json.specs.Why.{IsFullWhyLine, IsWhyLine, SaysCause, SaysCycle, SaysLeft, SaysWhy, cause_tokens};
+ghost use Rattle.report_json.specs.Why.{ready_members};
 
 use super::asked::put_asked;
-use super::conditions::put_more;
+use super::conditions::put_conditions;
 use super::items::{put_place, put_refusal, put_verdict};
 use super::report::{add_all_out, add_all_ready};
 use gate_rules::Gate;
@@ -21,12 +22,11 @@ use state_core::{Item, State};
 use std::alloc::Global;
 use why_text::{Chain, chain_of, others_on_cycle};
 
-/// The line of why an item waits: one object with what `why_text` says and, where `is_all`, what `conditions_text`
-/// says. It has the item's change and patch set, whether it is ready, its refusal if not, and the items down to the
-/// cause, each with its refusal, the last one also with what the gate file asks and what the item's change has. The
-/// verdicts are those of the state under the gate, which the bytes of the gate file spell. It costs O(n + b + k log n)
-/// for n items, b bytes of the gate file and k steps, and where `is_all` O(c b) for c conditions; of a cycle also what
-/// building the graph costs.
+/// The line of why an item waits: one object with what `why_text` says. It has the item's change and patch set, whether
+/// it is ready, its refusal if not, and the items down to the cause, each with its refusal, the last one also with what
+/// the gate file asks and what the item's change has. The verdicts are those of the state under the gate, which the
+/// bytes of the gate file spell. It costs O(n + b + k log n) for n items, b bytes of the gate file and k steps; of a
+/// cycle also what building the graph costs.
 pub fn why_line(
     alloc: Global,
     file: &[u8],
@@ -34,18 +34,38 @@ pub fn why_line(
     state: &State,
     verdicts: &Verdicts,
     item: Item,
-    is_all: bool,
 ) -> Result<Vec<u8>, NoMemory>
     requires spelled { SpellsGate file.now gate.now }
     requires judged { AreVerdicts gate.now state.now verdicts.now }
     requires there { IsItem state.now item }
-    ensures { IfOk result
-        (λ line. IsWhyLine is_all file.now gate.now state.now verdicts.now item line.items) }
+    ensures { IfOk result (λ line. IsWhyLine file.now gate.now state.now verdicts.now item line.items) }
 {
     let mut out = Writer::new(Vec::new(alloc));
     open_object(&mut out)?;
     put_why(alloc, &mut out, file, gate, state, verdicts, item)?;
-    put_more(alloc, &mut out, file, gate, state, item, is_all)?;
+    close_object(&mut out)?;
+    line_of(out)
+}
+
+/// The line of why an item waits, and of each condition of the gate: one object with what `why_line` has, and then what
+/// `conditions_text` says. It costs what `why_line` does, and O(c b) for c conditions and b bytes of the gate file.
+pub fn full_why_line(
+    alloc: Global,
+    file: &[u8],
+    gate: &Gate,
+    state: &State,
+    verdicts: &Verdicts,
+    item: Item,
+) -> Result<Vec<u8>, NoMemory>
+    requires spelled { SpellsGate file.now gate.now }
+    requires judged { AreVerdicts gate.now state.now verdicts.now }
+    requires there { IsItem state.now item }
+    ensures { IfOk result (λ line. IsFullWhyLine file.now gate.now state.now verdicts.now item line.items) }
+{
+    let mut out = Writer::new(Vec::new(alloc));
+    open_object(&mut out)?;
+    put_why(alloc, &mut out, file, gate, state, verdicts, item)?;
+    put_conditions(alloc, &mut out, file, gate, state, item)?;
     close_object(&mut out)?;
     line_of(out)
 }

@@ -1,6 +1,6 @@
 //! Command lines as users write them, and what they ask for.
 
-use command_line::{Asked, Command, read_words};
+use command_line::{Asked, Command, Detail, OutputFormat, Strictness, read_words};
 use std::alloc::Global;
 use std::process::Abort;
 use std::test::Fail;
@@ -16,38 +16,38 @@ fn command_of<'a>(alloc: Global, words: &'a [&'a str]) -> Option<Command<'a>> {
 /// The name of the first file that is asked for.
 fn first_name<'a>(command: &Command<'a>) -> &'a str {
     match command {
-        Command::Simulate { script, .. } => script,
-        Command::Merge { first, .. } => first,
-        Command::Ready { gate, .. }
-        | Command::ReadyItem { gate, .. }
-        | Command::Footers { gate, .. }
-        | Command::Check { gate, .. }
-        | Command::Why { gate, .. }
-        | Command::Graph { gate, .. } => gate,
+        Command::Simulate(command) => command.script,
+        Command::Merge(command) => command.first,
+        Command::Ready(command) => command.gate,
+        Command::ReadyItem(command) => command.gate,
+        Command::Footers(command) => command.gate,
+        Command::Check(command) => command.gate,
+        Command::Why(command) => command.gate,
+        Command::Graph(command) => command.gate,
     }
 }
 
 /// The name of the second, where there is one.
 fn second_name<'a>(command: &Command<'a>) -> &'a str {
     match command {
-        Command::Simulate { gate, .. } => gate.unwrap_or(""),
-        Command::Check { snapshot, .. } => snapshot.unwrap_or(""),
-        Command::Merge { second, .. } => second,
-        Command::Footers { message, .. } => message,
-        Command::Ready { snapshot, .. }
-        | Command::ReadyItem { snapshot, .. }
-        | Command::Why { snapshot, .. }
-        | Command::Graph { snapshot, .. } => snapshot,
+        Command::Simulate(command) => command.gate.unwrap_or(""),
+        Command::Check(command) => command.snapshot.unwrap_or(""),
+        Command::Merge(command) => command.second,
+        Command::Footers(command) => command.message,
+        Command::Ready(command) => command.snapshot,
+        Command::ReadyItem(command) => command.snapshot,
+        Command::Why(command) => command.snapshot,
+        Command::Graph(command) => command.snapshot,
     }
 }
 
 /// The change that is asked about, and 7 where none is.
 fn change_of(command: &Command<'_>) -> u32 {
     match command {
-        Command::Footers { change, .. }
-        | Command::ReadyItem { change, .. }
-        | Command::Why { change, .. } => *change,
-        Command::Graph { around, .. } => around.unwrap_or(7),
+        Command::Footers(command) => command.change,
+        Command::ReadyItem(command) => command.change,
+        Command::Why(command) => command.change,
+        Command::Graph(command) => command.around.unwrap_or(7),
         _ => 7,
     }
 }
@@ -114,7 +114,7 @@ fn a_change_is_a_number(rt: HostRuntime) {
 /// Whether words ask for a strict check.
 fn asks_strictly(alloc: Global, words: &[&str]) -> bool {
     match command_of(alloc, words) {
-        Some(Command::Check { is_strict, .. }) => is_strict,
+        Some(Command::Check(command)) => command.strictness == Strictness::Strict,
         _ => false,
     }
 }
@@ -128,45 +128,46 @@ fn a_check_is_strict_where_it_is_asked(rt: HostRuntime) {
     assert_asks(&rt, alloc, ["check", "g", "s", "t"].as_slice(), "", "", 0);
 }
 
-/// Whether words ask for JSON.
-fn asks_for_json(alloc: Global, words: &[&str]) -> bool {
-    match command_of(alloc, words) {
-        Some(
-            Command::Ready { is_json, .. }
-            | Command::ReadyItem { is_json, .. }
-            | Command::Why { is_json, .. }
-            | Command::Footers { is_json, .. }
-            | Command::Check { is_json, .. },
-        ) => is_json,
-        _ => false,
+/// How the answer of the command that words ask for is written, where it can be chosen.
+fn format_of(alloc: Global, words: &[&str]) -> Option<OutputFormat> {
+    match command_of(alloc, words)? {
+        Command::Ready(command) => Some(command.format),
+        Command::ReadyItem(command) => Some(command.format),
+        Command::Why(command) => Some(command.format),
+        Command::Footers(command) => Some(command.format),
+        Command::Check(command) => Some(command.format),
+        _ => None,
     }
 }
 
 #[test]
 fn an_answer_is_json_where_that_is_asked(rt: HostRuntime) {
-    let cases: [(&[&str], bool); 12] = [
-        (&["why", "g", "s", "101", "--json"], true),
-        (&["why", "--json", "--all", "g", "s", "101,2"], true),
-        (&["why", "g", "s", "101", "--all"], false),
-        (&["ready", "g", "s", "--json"], true),
-        (&["ready", "--json", "g", "s", "--item", "101"], true),
-        (&["footers", "g", "m", "--json", "--change", "7"], true),
-        (&["check", "--json", "g", "--strict"], true),
-        (&["ready", "g", "s"], false),
-        (&["ready", "g", "s", "--item", "101"], false),
-        (&["footers", "g", "m"], false),
-        (&["check", "g", "--strict"], false),
-        (&["graph", "g", "s", "--json"], false),
+    let text = Some(OutputFormat::Text);
+    let json = Some(OutputFormat::Json);
+    let cases: [(&[&str], Option<OutputFormat>); 13] = [
+        (&["why", "g", "s", "101", "--json"], json),
+        (&["why", "--json", "--all", "g", "s", "101,2"], json),
+        (&["why", "g", "s", "101", "--all"], text),
+        (&["ready", "g", "s", "--json"], json),
+        (&["ready", "--json", "g", "s", "--item", "101"], json),
+        (&["footers", "g", "m", "--json", "--change", "7"], json),
+        (&["check", "--json", "g", "--strict"], json),
+        (&["ready", "g", "s"], text),
+        (&["ready", "g", "s", "--item", "101"], text),
+        (&["footers", "g", "m"], text),
+        (&["check", "g", "--strict"], text),
+        (&["graph", "g", "s", "--json"], None),
+        (&["graph", "g", "s"], None),
     ];
     for (words, wanted) in cases {
-        assert_eq!(rt; asks_for_json(rt.alloc(), words), wanted);
+        assert_eq!(rt; format_of(rt.alloc(), words), wanted);
     }
 }
 
 /// Whether words ask for each condition.
 fn asks_for_all(alloc: Global, words: &[&str]) -> bool {
     match command_of(alloc, words) {
-        Some(Command::Why { is_all, .. }) => is_all,
+        Some(Command::Why(command)) => command.detail == Detail::AllConditions,
         _ => false,
     }
 }
@@ -182,7 +183,7 @@ fn each_condition_is_told_where_that_is_asked(rt: HostRuntime) {
 /// The patch set that is asked about, and 7 where none is.
 fn set_of(command: &Command<'_>) -> u32 {
     match command {
-        Command::Why { set, .. } => set.unwrap_or(7),
+        Command::Why(command) => command.set.unwrap_or(7),
         _ => 7,
     }
 }
@@ -281,7 +282,7 @@ fn a_journal_is_named_as_any_file_is(rt: HostRuntime) {
 /// The patch set of an item that is asked for.
 fn item_of(alloc: Global, words: &[&str]) -> Option<(u32, Option<u32>)> {
     match command_of(alloc, words) {
-        Some(Command::ReadyItem { change, set, .. }) => Some((change, set)),
+        Some(Command::ReadyItem(command)) => Some((command.change, command.set)),
         _ => None,
     }
 }

@@ -12,7 +12,7 @@ use Rattle.commands.proofs.footers.footers.Goals as goal
 pub returns-in_err-message : goal.returns-in_err-message
 returns-in_err-message g c =
     let p = err_from_is_err_and c.from_residual-in_err-message.result c.from_residual-in_err-message.ensures.1 in
-    rw (p.1, p.2) (inl (second_refused (input gate_file c.args.gate.now) (input message_file c.args.message.now)
+    rw (p.1, p.2) (inl (second_refused (input gate_file c.args.command.now.gate.now) (input message_file c.args.command.now.message.now)
     (λ text. SpellsGate text c.in_ok-rules.rules) (λ text spells. (c.in_ok-rules.rules, spells)) _ _ _ _ c.in_ok-rules.ensures.had c.in_err-message.ensures.refused))
 
 pub returns-in_default : goal.returns-in_default
@@ -23,11 +23,11 @@ returns-in_default g c =
     inr (
       first.0 ∷ second.0 ∷ [],
       g.C.Console.state c.read_message.new.console,
-      both_had (input gate_file c.args.gate.now) (input message_file c.args.message.now)
+      both_had (input gate_file c.args.command.now.gate.now) (input message_file c.args.command.now.message.now)
           (λ text. SpellsGate text c.in_ok-rules.rules) (λ text spells. (c.in_ok-rules.rules, spells))
           (λ text. text ≡ string_bytes c.in_ok-message.message)
           (λ text is. subst IsUtf8 (sym (is ∙ text_is)) c.as_str.utf8) _ _ _ first second,
-      stops (AreFooterLines first.0 second.0 c.args.change c.args.is_json) _,
+      stops (AreFooterLines first.0 second.0 c.args.command.now) _,
     )
 
 pub returns : goal.returns
@@ -39,18 +39,18 @@ returns g c =
     inr (
       first.0 ∷ second.0 ∷ [],
       g.C.Console.state c.read_message.new.console,
-      both_had (input gate_file c.args.gate.now) (input message_file c.args.message.now)
+      both_had (input gate_file c.args.command.now.gate.now) (input message_file c.args.command.now.message.now)
           (λ text. SpellsGate text c.in_ok-rules.rules) (λ text spells. (c.in_ok-rules.rules, spells))
           (λ text. text ≡ string_bytes c.in_ok-message.message)
           (λ text is. subst IsUtf8 (sym (is ∙ text_is)) c.as_str.utf8) _ _ _ first second,
-      finishes (IsPrintedWhole (AreFooterLines first.0 second.0 c.args.change c.args.is_json) MissesNone)
-          (footers_as c.args.is_json c.in_ok-rules.rules.bases found.0 found.1) _ _ c.print.result
+      finishes (IsPrintedWhole (AreFooterLines first.0 second.0 c.args.command.now) MissesNone)
+          (footers_as c.args.command.now.format c.in_ok-rules.rules.bases found.0 found.1) _ _ c.print.result
           (record {
             rules = c.in_ok-rules.rules;
             spelled = first.2;
             needs = found.0;
             ignored = found.1;
-            footers = subst (λ text. AreFooters c.in_ok-rules.rules.bases c.args.change text found.0 found.1)
+            footers = subst (λ text. AreFooters c.in_ok-rules.rules.bases c.args.command.now.change text found.0 found.1)
                 (sym (second.2 ∙ text_is)) found.2;
             text = refl;
           })

@@ -14,7 +14,7 @@ pub returns-in_err-gathering : goal.returns-in_err-gathering
 returns-in_err-gathering g c =
     let rules = c.in_ok-rules.rules in
     let p = err_from_is_err_and c.from_residual-in_err-gathering.result c.from_residual-in_err-gathering.ensures.1 in
-    rw (p.1, p.2) (inl (snapshot_refused c.args.gate.now c.args.snapshot.now rules (λ text. SpellsGate text rules) (λ text spells. spells) _ _ _ _ c.in_ok-rules.ensures.had c.in_err-gathering.ensures.refused))
+    rw (p.1, p.2) (inl (snapshot_refused c.args.command.now.gate.now c.args.command.now.snapshot.now rules (λ text. SpellsGate text rules) (λ text spells. spells) _ _ _ _ c.in_ok-rules.ensures.had c.in_err-gathering.ensures.refused))
 
 pub returns-in_err-state : goal.returns-in_err-state
 returns-in_err-state g c =
@@ -26,8 +26,8 @@ returns-in_err-state g c =
     (inr (
       first.0 ∷ second.2.0 ∷ [],
       g.C.Console.state c.read_record.new.console,
-      record_had c.args.gate.now c.args.snapshot.now rules (λ text. SpellsGate text rules) (λ text spells. spells) second.0 _ _ _ first second.2,
-      stops (IsOf first.0 second.2.0 (IsPicture c.args.around)) _,
+      record_had c.args.command.now.gate.now c.args.command.now.snapshot.now rules (λ text. SpellsGate text rules) (λ text spells. spells) second.0 _ _ _ first second.2,
+      stops (IsOf first.0 second.2.0 (IsPicture c.args.command.now.around)) _,
     ))
 
 pub returns-in-Ok : goal.returns-in-Ok
@@ -39,19 +39,19 @@ returns-in-Ok g c =
     inr (
       first.0 ∷ second.2.0 ∷ [],
       g.C.Console.state c.read_record.new.console,
-      record_had c.args.gate.now c.args.snapshot.now rules (λ text. SpellsGate text rules)
+      record_had c.args.command.now.gate.now c.args.command.now.snapshot.now rules (λ text. SpellsGate text rules)
           (λ text spells. spells) second.0 _ _ _ first second.2,
-      finishes (IsPrintedWhole (IsOf first.0 second.2.0 (IsPicture c.args.around)) (Misses (IsAround c.args.around) second.2.0 (HasAround c.args.around))) c.as_bytes.result.now _ _ c.print.result
+      finishes (IsPrintedWhole (IsOf first.0 second.2.0 (IsPicture c.args.command.now.around)) (Misses (IsAround c.args.command.now.around) second.2.0 (HasAround c.args.command.now.around))) c.as_bytes.result.now _ _ c.print.result
           (record {
             rules = rules;
             spelled = first.2;
             ops = second.0;
             says = second.2.2;
             so = (
-              subst (HasAround c.args.around) state c.in-Ok.ensures.known,
-              subst (IsGraphText rules (state_of (all_arrived [] second.0)) c.args.around)
+              subst (HasAround c.args.command.now.around) state c.in-Ok.ensures.known,
+              subst (IsGraphText rules (state_of (all_arrived [] second.0)) c.args.command.now.around)
                   (sym c.as_bytes.ensures.value)
-                  (subst (λ s. IsGraphText rules s c.args.around (string_bytes c.in-Ok.text)) state c.in-Ok.ensures.drawn),
+                  (subst (λ s. IsGraphText rules s c.args.command.now.around (string_bytes c.in-Ok.text)) state c.in-Ok.ensures.drawn),
             );
           })
           c.print.ensures,
@@ -66,11 +66,11 @@ returns g c =
     inr (
       first.0 ∷ second.2.0 ∷ [],
       g.C.Console.state c.read_record.new.console,
-      record_had c.args.gate.now c.args.snapshot.now rules (λ text. SpellsGate text rules)
+      record_had c.args.command.now.gate.now c.args.command.now.snapshot.now rules (λ text. SpellsGate text rules)
           (λ text spells. spells) second.0 _ _ _ first second.2,
       inl (
         [],
-        not_there (IsOf first.0 second.2.0 (IsPicture c.args.around)) (IsAround c.args.around) second.2.0 (HasAround c.args.around) c.in-Err.refusal second.0 c.in_ok-state.state second.2.2 state c.in-Err.ensures.refused,
+        not_there (IsOf first.0 second.2.0 (IsPicture c.args.command.now.around)) (IsAround c.args.command.now.around) second.2.0 (HasAround c.args.command.now.around) c.in-Err.refusal second.0 c.in_ok-state.state second.2.2 state c.in-Err.ensures.refused,
         nothing_printed (g.C.Console.state c.read_record.new.console),
       ),
     )

@@ -19,4 +19,4 @@ pub bounds-out-place : goal.bounds-out-place
 bounds-out-place c = slice_get_within c.args.out.now c.in-Some.place c.in-Some.ensures.left c.in-Some.ensures.here
 
 pub returns : goal.returns
-returns c = out_written c.args.is_json c.args.out.now c.args.item c.in-Some.place _ _ c.in-Some.ensures c.in_ok-line.ensures
+returns c = out_written c.args.format c.args.out.now c.args.item c.in-Some.place _ _ c.in-Some.ensures c.in_ok-line.ensures

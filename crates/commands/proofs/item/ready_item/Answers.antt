@@ -16,7 +16,7 @@ pub returns-in_err-gathering : goal.returns-in_err-gathering
 returns-in_err-gathering g c =
     let p = err_from_is_err_and c.from_residual-in_err-gathering.result c.from_residual-in_err-gathering.ensures.1 in
     let rules = c.in_ok-rules.rules in
-    rw (p.1, p.2) (inl (snapshot_refused c.args.gate.now c.args.snapshot.now rules (λ text. SpellsGate text rules) (λ text spells. spells) _ _ _ _ c.in_ok-rules.ensures.had c.in_err-gathering.ensures.refused))
+    rw (p.1, p.2) (inl (snapshot_refused c.args.command.now.gate.now c.args.command.now.snapshot.now rules (λ text. SpellsGate text rules) (λ text spells. spells) _ _ _ _ c.in_ok-rules.ensures.had c.in_err-gathering.ensures.refused))
 
 pub returns-in_err-state : goal.returns-in_err-state
 returns-in_err-state g c =
@@ -28,10 +28,10 @@ returns-in_err-state g c =
     (inr (
       first.0 ∷ second.2.0 ∷ [],
       g.C.Console.state c.read_record.new.console,
-      record_had c.args.gate.now c.args.snapshot.now rules (λ text. SpellsGate text rules) (λ text spells. spells) second.0 _ _ _ first second.2,
-      finishes_so (IsItemPrinted c.args.change c.args.set c.args.is_json rules (state_of (all_arrived [] second.0))) _
+      record_had c.args.command.now.gate.now c.args.command.now.snapshot.now rules (λ text. SpellsGate text rules) (λ text spells. spells) second.0 _ _ _ first second.2,
+      finishes_so (IsItemPrinted c.args.command.now rules (state_of (all_arrived [] second.0))) _
           (λ answer end is. (rules, first.2, second.0, second.2.2, is)) _ _ _
-          (inl ([], none_ends c.args.change c.args.set c.args.is_json rules (state_of (all_arrived [] second.0)) Memory (inr refl), nothing_printed _)),
+          (inl ([], none_ends c.args.command.now rules (state_of (all_arrived [] second.0)) Memory (inr refl), nothing_printed _)),
     ))
 
 pub returns : goal.returns
@@ -43,9 +43,9 @@ returns g c =
     inr (
       first.0 ∷ second.2.0 ∷ [],
       g.C.Console.state c.read_record.new.console,
-      record_had c.args.gate.now c.args.snapshot.now rules (λ text. SpellsGate text rules)
+      record_had c.args.command.now.gate.now c.args.command.now.snapshot.now rules (λ text. SpellsGate text rules)
           (λ text spells. spells) second.0 _ _ _ first second.2,
-      finishes_so (IsItemPrinted c.args.change c.args.set c.args.is_json rules (state_of (all_arrived [] second.0))) _
+      finishes_so (IsItemPrinted c.args.command.now rules (state_of (all_arrived [] second.0))) _
           (λ answer end is. (rules, first.2, second.0, second.2.2, is)) _ _ c.print_item-printed.result
-          (subst (λ (s : State). Finishes (IsItemPrinted c.args.change c.args.set c.args.is_json rules s) (g.C.Console.state c.read_record.new.console) (g.C.Console.state c.print_item-printed.new.console) c.print_item-printed.result) state c.print_item-printed.ensures),
+          (subst (λ (s : State). Finishes (IsItemPrinted c.args.command.now rules s) (g.C.Console.state c.read_record.new.console) (g.C.Console.state c.print_item-printed.new.console) c.print_item-printed.result) state c.print_item-printed.ensures),
     )

@@ -21,4 +21,4 @@ returns-then-contains c =
 pub returns : goal.returns
 returns c =
     IfOk-weaker c.left_in.result _ _
-    (λ standing is. inr (subst (λ (out : List Left). IsLeftSo c.args.is_json out c.args.item standing.is_ready standing.line.items) c.out.ensures is)) c.left_in.ensures
+    (λ standing is. inr (subst (λ (out : List Left). IsLeftSo c.args.format out c.args.item standing.is_ready standing.line.items) c.out.ensures is)) c.left_in.ensures

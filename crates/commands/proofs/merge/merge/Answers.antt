@@ -13,9 +13,9 @@ pub returns-in_err-both : goal.returns-in_err-both
 returns-in_err-both g c =
     let p = err_from_is_err_and c.from_residual-in_err-both.result c.from_residual-in_err-both.ensures.1 in
     let first = c.in_ok-gathering.ensures.had in
-    rw (p.1, p.2) (inl (second_refused (record_input c.args.first.now) (record_input c.args.second.now)
+    rw (p.1, p.2) (inl (second_refused (record_input c.args.command.now.first.now) (record_input c.args.command.now.second.now)
     (λ text. SaysOperations (lines_of text) first.0)
-    (λ text says. record_sound c.args.first.now text first.0 says) _ _ _ _ first.2 c.in_err-both.ensures.refused))
+    (λ text says. record_sound c.args.command.now.first.now text first.0 says) _ _ _ _ first.2 c.in_err-both.ensures.refused))
 
 pub returns : goal.returns
 returns g c =
@@ -24,9 +24,9 @@ returns g c =
     inr (
       first.2.0 ∷ second.2.0 ∷ [],
       g.C.Console.state c.read_record-2.new.console,
-      both_had (record_input c.args.first.now) (record_input c.args.second.now)
-          (λ text. SaysOperations (lines_of text) first.0) (λ text says. record_sound c.args.first.now text first.0 says)
-          (λ text. SaysOperations (lines_of text) second.0) (λ text says. record_sound c.args.second.now text second.0 says) _ _ _ first.2 second.2,
+      both_had (record_input c.args.command.now.first.now) (record_input c.args.command.now.second.now)
+          (λ text. SaysOperations (lines_of text) first.0) (λ text says. record_sound c.args.command.now.first.now text first.0 says)
+          (λ text. SaysOperations (lines_of text) second.0) (λ text says. record_sound c.args.command.now.second.now text second.0 says) _ _ _ first.2 second.2,
       finishes_snapshot (IsMergedText first.2.0 second.2.0) c.in_ok-both.both _ _ c.print_snapshot-printed.result
           (is_merged c.operations_arrive_as_a_set.ensures first.2.0 second.2.0 first.0 second.0 c.new.result c.in_ok-gathering.gathering c.in_ok-both.both first.2.2 second.2.2 c.new.ensures first.1 second.1)
           c.print_snapshot-printed.ensures,

@@ -14,7 +14,7 @@ pub returns-in_err-gathering : goal.returns-in_err-gathering
 returns-in_err-gathering g c =
     let p = err_from_is_err_and c.from_residual-in_err-gathering.result c.from_residual-in_err-gathering.ensures.1 in
     let rules = c.in_ok-rules.rules in
-    rw (p.1, p.2) (inl (snapshot_refused c.args.gate.now c.args.snapshot.now rules (λ text. SpellsGate text rules) (λ text spells. spells) _ _ _ _ c.in_ok-rules.ensures.had c.in_err-gathering.ensures.refused))
+    rw (p.1, p.2) (inl (snapshot_refused c.args.command.now.gate.now c.args.command.now.snapshot.now rules (λ text. SpellsGate text rules) (λ text spells. spells) _ _ _ _ c.in_ok-rules.ensures.had c.in_err-gathering.ensures.refused))
 
 pub returns-in_err-state : goal.returns-in_err-state
 returns-in_err-state g c =
@@ -26,8 +26,8 @@ returns-in_err-state g c =
     (inr (
       first.0 ∷ second.2.0 ∷ [],
       g.C.Console.state c.read_record.new.console,
-      record_had c.args.gate.now c.args.snapshot.now rules (λ text. SpellsGate text rules) (λ text spells. spells) second.0 _ _ _ first second.2,
-      stops (IsOf first.0 second.2.0 (IsReport c.args.is_json)) _,
+      record_had c.args.command.now.gate.now c.args.command.now.snapshot.now rules (λ text. SpellsGate text rules) (λ text spells. spells) second.0 _ _ _ first second.2,
+      stops (IsOf first.0 second.2.0 (IsReport c.args.command.now.format)) _,
     ))
 
 pub returns-in_default : goal.returns-in_default
@@ -38,9 +38,9 @@ returns-in_default g c =
     inr (
       first.0 ∷ second.2.0 ∷ [],
       g.C.Console.state c.read_record.new.console,
-      record_had c.args.gate.now c.args.snapshot.now rules (λ text. SpellsGate text rules)
+      record_had c.args.command.now.gate.now c.args.command.now.snapshot.now rules (λ text. SpellsGate text rules)
           (λ text spells. spells) second.0 _ _ _ first second.2,
-      stops (IsOf first.0 second.2.0 (IsReport c.args.is_json)) _,
+      stops (IsOf first.0 second.2.0 (IsReport c.args.command.now.format)) _,
     )
 
 pub returns : goal.returns
@@ -52,10 +52,10 @@ returns g c =
     inr (
       first.0 ∷ second.2.0 ∷ [],
       g.C.Console.state c.read_record.new.console,
-      record_had c.args.gate.now c.args.snapshot.now rules (λ text. SpellsGate text rules)
+      record_had c.args.command.now.gate.now c.args.command.now.snapshot.now rules (λ text. SpellsGate text rules)
           (λ text spells. spells) second.0 _ _ _ first second.2,
-      finishes_so (IsPrintedWhole (λ answer. answer ≡ report_as c.args.is_json c.in-Ok.verdicts) MissesNone) _
-          (whole_so (λ answer. answer ≡ report_as c.args.is_json c.in-Ok.verdicts) (IsOf first.0 second.2.0 (IsReport c.args.is_json)) MissesNone
+      finishes_so (IsPrintedWhole (λ answer. answer ≡ report_as c.args.command.now.format c.in-Ok.verdicts) MissesNone) _
+          (whole_so (λ answer. answer ≡ report_as c.args.command.now.format c.in-Ok.verdicts) (IsOf first.0 second.2.0 (IsReport c.args.command.now.format)) MissesNone
           (λ answer same. record {
             rules = rules;
             spelled = first.2;

@@ -16,7 +16,7 @@ pub returns-in_err-gathering : goal.returns-in_err-gathering
 returns-in_err-gathering g c =
     let file = c.in_ok-file.file in
     let p = err_from_is_err_and c.from_residual-in_err-gathering.result c.from_residual-in_err-gathering.ensures.1 in
-    rw (p.1, p.2) (inl (snapshot_refused c.args.gate.now c.args.snapshot.now file.rules (λ text. SpellsGate text file.rules × (text ≡ file.text.items)) (λ text is. is.0) _ _ _ _
+    rw (p.1, p.2) (inl (snapshot_refused c.args.command.now.gate.now c.args.command.now.snapshot.now file.rules (λ text. SpellsGate text file.rules × (text ≡ file.text.items)) (λ text is. is.0) _ _ _ _
     c.in_ok-file.ensures.had c.in_err-gathering.ensures.refused))
 
 pub returns-in_err-state : goal.returns-in_err-state
@@ -29,8 +29,8 @@ returns-in_err-state g c =
     (inr (
       first.0 ∷ second.2.0 ∷ [],
       g.C.Console.state c.read_record.new.console,
-      record_had c.args.gate.now c.args.snapshot.now file.rules (λ text. SpellsGate text file.rules × (text ≡ file.text.items)) (λ text is. is.0) second.0 _ _ _ first second.2,
-      stops (IsOf first.0 second.2.0 (IsWhyAnswer first.0 c.args.change c.args.set c.args.is_all c.args.is_json)) _,
+      record_had c.args.command.now.gate.now c.args.command.now.snapshot.now file.rules (λ text. SpellsGate text file.rules × (text ≡ file.text.items)) (λ text is. is.0) second.0 _ _ _ first second.2,
+      stops (IsOf first.0 second.2.0 (IsWhyAnswer first.0 c.args.command.now)) _,
     ))
 
 pub returns-in-Ok : goal.returns-in-Ok
@@ -42,20 +42,20 @@ returns-in-Ok g c =
     inr (
       first.0 ∷ second.2.0 ∷ [],
       g.C.Console.state c.read_record.new.console,
-      record_had c.args.gate.now c.args.snapshot.now file.rules
+      record_had c.args.command.now.gate.now c.args.command.now.snapshot.now file.rules
           (λ text. SpellsGate text file.rules × (text ≡ file.text.items))
           (λ text is. is.0) second.0 _ _ _ first second.2,
-      finishes (IsPrintedWhole (IsOf first.0 second.2.0 (IsWhyAnswer first.0 c.args.change c.args.set c.args.is_all c.args.is_json)) (Misses (IsItemText c.args.change c.args.set) second.2.0 (HasItem c.args.change c.args.set))) c.as_slice.result.now _ _ c.print.result
+      finishes (IsPrintedWhole (IsOf first.0 second.2.0 (IsWhyAnswer first.0 c.args.command.now)) (Misses (IsItemText c.args.command.now.change c.args.command.now.set) second.2.0 (HasItem c.args.command.now.change c.args.command.now.set))) c.as_slice.result.now _ _ c.print.result
           (record {
             rules = file.rules;
             spelled = first.2.0;
             ops = second.0;
             says = second.2.2;
             so =
-                subst (IsWhyAnswer first.0 c.args.change c.args.set c.args.is_all c.args.is_json file.rules (state_of (all_arrived [] second.0)))
+                subst (IsWhyAnswer first.0 c.args.command.now file.rules (state_of (all_arrived [] second.0)))
                 (sym c.as_slice.ensures.value)
-                (subst (λ s. IsWhyAnswer first.0 c.args.change c.args.set c.args.is_all c.args.is_json file.rules s c.in-Ok.text.items) state
-                (subst (λ t. IsWhyAnswer t c.args.change c.args.set c.args.is_all c.args.is_json file.rules c.in_ok-state.state c.in-Ok.text.items) (sym first.2.1) c.in-Ok.ensures.reason));
+                (subst (λ s. IsWhyAnswer first.0 c.args.command.now file.rules s c.in-Ok.text.items) state
+                (subst (λ t. IsWhyAnswer t c.args.command.now file.rules c.in_ok-state.state c.in-Ok.text.items) (sym first.2.1) c.in-Ok.ensures.reason));
           })
           c.print.ensures,
     )
@@ -78,15 +78,15 @@ returns g c =
     inr (
       first.0 ∷ second.2.0 ∷ [],
       g.C.Console.state c.read_record.new.console,
-      record_had c.args.gate.now c.args.snapshot.now file.rules
+      record_had c.args.command.now.gate.now c.args.command.now.snapshot.now file.rules
           (λ text. SpellsGate text file.rules × (text ≡ file.text.items))
           (λ text is. is.0) second.0 _ _ _ first second.2,
       inl (
         [],
-        not_there (IsOf first.0 second.2.0 (IsWhyAnswer first.0 c.args.change c.args.set c.args.is_all c.args.is_json))
-            (IsItemText c.args.change c.args.set) second.2.0
-            (HasItem c.args.change c.args.set) c.in-Err.refusal second.0 c.in_ok-state.state second.2.2 state
-            (no_item c.args.change c.args.set c.in_ok-state.state c.in-Err.refusal c.in-Err.ensures.refused),
+        not_there (IsOf first.0 second.2.0 (IsWhyAnswer first.0 c.args.command.now))
+            (IsItemText c.args.command.now.change c.args.command.now.set) second.2.0
+            (HasItem c.args.command.now.change c.args.command.now.set) c.in-Err.refusal second.0 c.in_ok-state.state second.2.2 state
+            (no_item c.args.command.now.change c.args.command.now.set c.in_ok-state.state c.in-Err.refusal c.in-Err.ensures.refused),
         nothing_printed (g.C.Console.state c.read_record.new.console),
       ),
     )
