@@ -39,15 +39,7 @@ pub fn nodes_of(
         if !is_shown(state, graph, near, place) {
             continue;
         }
-        let node = node_at(
-            alloc,
-            state,
-            graph,
-            verdicts.out(),
-            near,
-            firsts,
-            place,
-        )?;
+        let node = node_at(alloc, state, graph, verdicts.out(), near, firsts, place)?;
         nodes.push(node)?;
     }
     Ok(nodes)
