@@ -855,7 +855,7 @@ class Listed:
 
 
 @dataclass
-class Told:
+class ParsedLine:
     """What a line is, of which change, and what is found in it. A `part` is event, row, stats, error or None."""
 
     part: str | None
@@ -896,14 +896,14 @@ class Event:
         self.change, self.set = number_in(under(self.about, "number")), number_in(under(self.patch, "number"))
         self.message, self.revision = under(self.about, "commitMessage"), under(self.patch, "revision")
 
-    def told(self, projects: list | None) -> Told:
+    def parsed(self, projects: list | None) -> ParsedLine:
         if not self.is_query and not isinstance(self.kind, str):
-            return Told(None, found=["type"])
+            return ParsedLine(None, found=["type"])
         part = {"stats": "stats", "error": "error"}.get(self.kind, "row" if self.is_query else "event")
         change = None if part in ("stats", "error") or self.kind == "dropped-output" else self.change
-        told = Told(part, change, part == "stats" and under(self.value, "moreChanges") is True)
-        told.found = self.found() if self.is_fed(projects) else []
-        return told
+        parsed = ParsedLine(part, change, part == "stats" and under(self.value, "moreChanges") is True)
+        parsed.found = self.found() if self.is_fed(projects) else []
+        return parsed
 
     def is_fed(self, projects: list | None) -> bool:
         return projects is None or self.about is MISSING or under(self.about, "project") in projects
@@ -1025,17 +1025,17 @@ class Event:
         return ([], said) if name == "NEW" else (said, [])
 
 
-def told_by(line: bytes, known: dict, projects: list | None = None) -> Told:
+def parse_line(line: bytes, known: dict, projects: list | None = None) -> ParsedLine:
     """What a line is, what it brings, and what is lost of it."""
     try:
         value = read_json(line)
     except (ValueError, RecursionError):
-        return Told(None, found=["line"])
+        return ParsedLine(None, found=["line"])
     if not isinstance(value, dict) or len(line) > 67108864:
-        return Told(None, found=["line"])
-    told = Event(value, known).told(projects)
-    told.found = [settled(found) for found in told.found]
-    return told
+        return ParsedLine(None, found=["line"])
+    parsed = Event(value, known).parsed(projects)
+    parsed.found = [settled(found) for found in parsed.found]
+    return parsed
 
 
 def settled(found):
@@ -1079,23 +1079,23 @@ class Feed:
         return self.output, self.errors, 0
 
     def line(self, number: int, line: bytes) -> None:
-        told = told_by(line, self.known, self.projects)
-        self.is_sure = self.is_sure and not (told.part is None or told.part == "row" and told.change is None)
-        self.before(told)
-        for found in self.in_turn(told.found):
+        parsed = parse_line(line, self.known, self.projects)
+        self.is_sure = self.is_sure and not (parsed.part is None or parsed.part == "row" and parsed.change is None)
+        self.before(parsed)
+        for found in self.in_turn(parsed.found):
             if found is DROPPED:
                 raise FeedEnds(f"2 Dropped {number}")
             if isinstance(found, str):
                 self.report(number, found)
             else:
                 self.meet(number, found)
-        if told.part == "error":
+        if parsed.part == "error":
             raise FeedEnds("9 Incomplete")
-        if told.part == "row":
+        if parsed.part == "row":
             self.progress = "open"
-            self.listed |= {told.change} - {None}
-        elif told.part == "stats":
-            self.progress = "open" if told.has_more else "whole"
+            self.listed |= {parsed.change} - {None}
+        elif parsed.part == "stats":
+            self.progress = "open" if parsed.has_more else "whole"
 
     def end(self) -> None:
         if self.progress == "open" or self.progress is None and self.way != STREAM:
@@ -1104,7 +1104,7 @@ class Feed:
     def report(self, number: int, key: str) -> None:
         self.errors += b"reviewgate: events 1 BadEvent %d %s\n" % (number, key.encode())
 
-    def before(self, told: Told) -> None:
+    def before(self, parsed: ParsedLine) -> None:
         """What is said of a line before it is met."""
 
     def in_turn(self, found: list) -> list:
@@ -1140,28 +1140,28 @@ class Offered(Feed):
         self.output = b"pulled %d\n" % len(self.record.ops)
         return super().run(text)
 
-    def before(self, told: Told) -> None:
-        for number in self.asked(told):
+    def before(self, parsed: ParsedLine) -> None:
+        for number in self.asked(parsed):
             self.output += b"ask %d\n" % number
 
-    def asked(self, told: Told) -> list:
+    def asked(self, parsed: ParsedLine) -> list:
         """The changes that have to be queried: that of an event which brings a patch set, restores an abandoned change,
         alters a vote on a patch set that was replaced, shows no vote where the record has one, or of which something
         was lost; what a new patch set of an event, but for the first, may outdate; and what it or that of an open row
         waits for and the record doesn't know.
         """
-        patches = [found.deed if isinstance(found, Shown) else found for found in told.found]
+        patches = [found.deed if isinstance(found, Shown) else found for found in parsed.found]
         patches = [deed for deed in patches if isinstance(deed, Deed) and deed.kind == "patchset"]
         asked = set()
-        if told.part == "event":
+        if parsed.part == "event":
             patches = [deed for deed in patches if (deed.change, deed.set) not in self.state.sets]
             asked = {deed.change for deed in patches}
             asked |= {child for deed in patches if deed.set > 1 for child in self.children(deed.change)}
-            asked |= {found.change for found in told.found if self.is_return(found) or self.is_late(found)}
-            asked |= {found.deed.change for found in told.found if self.is_doubtful(found)}
-            if told.change is not None and any(isinstance(found, str) for found in told.found):
-                asked.add(told.change)
-        elif Deed("restore", told.change or 0) not in told.found:
+            asked |= {found.change for found in parsed.found if self.is_return(found) or self.is_late(found)}
+            asked |= {found.deed.change for found in parsed.found if self.is_doubtful(found)}
+            if parsed.change is not None and any(isinstance(found, str) for found in parsed.found):
+                asked.add(parsed.change)
+        elif Deed("restore", parsed.change or 0) not in parsed.found:
             patches = []
         for deed in patches:
             asked |= {name for name in self.names(deed) if not self.is_known(name)}

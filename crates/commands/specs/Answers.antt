@@ -1,5 +1,6 @@
 -- What each command prints: its text as a relation to the texts of its inputs.
-use Rattle.std.specs.Prelude.{◌≡◌, ◌⊎◌, ◌<◌, ℕ, Bool, true, false, Contains, List, [], ◌∷◌, ◌++◌, Option, None, Some, Ok, Err}
+use Rattle.std.specs.Prelude.{◌≡◌, ◌⊎◌, ◌<◌, ℕ, Bool, true, false, Contains, List, [], ◌∷◌, ◌++◌, Option, None, Some}
+use Rattle.std.specs.Prelude.{Ok, Err}
 use Rattle.std.specs.Prelude.{codes, decimal, flat_map, length}
 use Rattle.byte_ends.specs.Lines.{lines_of}
 use Rattle.footer_text.specs.Footers.{AreFooters}
@@ -28,7 +29,7 @@ use Rattle.script_text.specs.Script.{IsUnreadScript, SaysScript}
 use Rattle.script_text.specs.declared.fault.ScriptFault.{ScriptFault}
 use Rattle.script_text.specs.declared.fault.ScriptFault.TheVariants.{BadLine, NoMemory}
 use Rattle.script_text.specs.declared.script.Step.{Step}
-use Rattle.why_text.specs.All.{TellsConditions}
+use Rattle.why_text.specs.All.{WritesConditions}
 use Rattle.why_text.specs.Asked.{IsItemAsked}
 use Rattle.why_text.specs.Why.{IsWhy}
 use Rattle.world_core.specs.World.{new_world}
@@ -144,13 +145,13 @@ IsItemAnswer gate snapshot command answer ended =
 -- ---- `why`: why an item waits, for which the text of the gate file is looked at, too
 
 -- what comes after the cause: nothing, or each condition of the gate
-abbrev pub TellsMore : Detail → List ℕ → GateRules → State → Item → List ℕ → Type 0
-TellsMore Cause gate rules state item more = more ≡ []
-TellsMore AllConditions gate rules state item more = TellsConditions gate rules state item more
+abbrev pub WritesMore : Detail → List ℕ → GateRules → State → Item → List ℕ → Type 0
+WritesMore Cause gate rules state item more = more ≡ []
+WritesMore AllConditions gate rules state item more = WritesConditions gate rules state item more
 
 abbrev pub IsReasonText : List ℕ → Detail → GateRules → State → Judged → Item → List ℕ → Type 0
 IsReasonText gate detail rules state verdicts item answer =
-    (reason more : List ℕ) × IsWhy gate rules state verdicts item reason × TellsMore detail gate rules state item more
+    (reason more : List ℕ) × IsWhy gate rules state verdicts item reason × WritesMore detail gate rules state item more
     × (answer ≡ reason ++ more)
 
 abbrev pub IsReasonLine : List ℕ → Detail → GateRules → State → Judged → Item → List ℕ → Type 0

@@ -6,7 +6,7 @@ ghost use Rattle.ready_core.specs.Verdicts.{AreVerdicts};
 ghost use Rattle.state_core.specs.Items.{IsItem};
 ghost use Rattle.state_core.specs.declared.item.Item.{Item};
 ghost use Rattle.why_text.specs.Asked.{IsItemAsked};
-ghost use Rattle.commands.specs.Answers.{IsWhyAnswer, IsReasonFor, IsReasonLine, IsReasonText, TellsMore};
+ghost use Rattle.commands.specs.Answers.{IsWhyAnswer, IsReasonFor, IsReasonLine, IsReasonText, WritesMore};
 ghost use Rattle.commands.specs.Ending.{Ends};
 
 use super::record::state_from;
@@ -143,7 +143,7 @@ fn more_text(
     requires spelled { SpellsGate file.now.text.items file.now.rules }
     requires there { IsItem state.now item }
     ensures { IfOk result
-        (λ text. TellsMore detail file.now.text.items file.now.rules state.now item (string_bytes text)) }
+        (λ text. WritesMore detail file.now.text.items file.now.rules state.now item (string_bytes text)) }
 {
     let bytes = file.text.as_slice();
     match detail {

@@ -1,6 +1,8 @@
 -- What groups hand over, one after the other.
-use Rattle.std.proofs.Common.{◌≡◌, ◌∙◌, ◌≤◌, ◌+◌, ◌++◌, ◌∷◌, [], ℕ, Bool, true, false, List, None, Some, Result, Ok, Err}
-use Rattle.std.proofs.Common.{append_assoc, append-nil, length, length-append, arith, All, IfErr, IfOk, refl, sym, ap, subst}
+use Rattle.std.proofs.Common.{◌≡◌, ◌∙◌, ◌≤◌, ◌+◌, ◌++◌, ◌∷◌, [], ℕ, Bool, true, false, List, None, Some, Result, Ok}
+use Rattle.std.proofs.Common.{Err}
+use Rattle.std.proofs.Common.{append_assoc, append-nil, length, length-append, arith, All, IfErr, IfOk, refl, sym, ap}
+use Rattle.std.proofs.Common.{subst}
 use Rattle.std.proofs.Common.{inl, inr}
 use Rattle.std.specs.Prelude.{◌⊎◌}
 use Rattle.std.specs.Io.KnownBytes.{Consumes, IsAtEnd}
@@ -9,24 +11,28 @@ use Rattle.std.proofs.lemmas.List.Concat.{flat_map-append}
 use Rattle.std.proofs.lemmas.List.Elements.{All-push}
 use Rattle.line_reader.specs.Lines.{HasNoLf}
 use Rattle.state_core.specs.declared.item.Item.{Item}
-use Rattle.enqueue_lines.specs.Ending.{BreaksGroup, BreaksItems, EndsEarly, Gives, HandsGroup, LacksLine, StopsAt, next_number}
+use Rattle.enqueue_lines.specs.Ending.{BreaksGroup, BreaksItems, EndsEarly, Gives, HandsGroup, LacksLine, StopsAt}
+use Rattle.enqueue_lines.specs.Ending.{next_number}
 use Rattle.enqueue_lines.specs.Ending.{site_line_limit}
-use Rattle.enqueue_lines.specs.Groups.{Fits, ReadySoFar, GroupTold, fresh, ready_first, ready_after, told_by}
+use Rattle.enqueue_lines.specs.Groups.{Fits, ReadySoFar, GroupItems, fresh, ready_first, ready_after, items_of_lines}
 use Rattle.enqueue_lines.specs.Printing.{Pipe, item_line, item_lines, report_line, report_lines}
-use Rattle.enqueue_lines.specs.Running.{AllFit, AreWhole, GroupComes, GroupIsHanded, HandsOver, IsNoEnd, KnownEnds, KnownOutputs}
-use Rattle.enqueue_lines.specs.Running.{LineGroup, NoGroupIsLeft, SaysLines, WritesItems, WritesTexts, all_say, counted_on}
+use Rattle.enqueue_lines.specs.Running.{AllFit, AreWhole, GroupComes, GroupIsHanded, HandsOver, IsNoEnd, KnownEnds}
+use Rattle.enqueue_lines.specs.Running.{KnownOutputs}
+use Rattle.enqueue_lines.specs.Running.{LineGroup, NoGroupIsLeft, SaysLines, WritesItems, WritesTexts, all_say}
+use Rattle.enqueue_lines.specs.Running.{counted_on}
 use Rattle.enqueue_lines.specs.Running.{group_says, handed_by, held_after, most_lines, ready_then, starting}
 use Rattle.enqueue_lines.specs.declared.fault.EnqueueFault.{EnqueueFault}
 use Rattle.enqueue_lines.specs.declared.fault.EnqueueFault.TheVariants.{BadLine, BadEnd, NoEnd, ReadFault, NoMemory}
 use Rattle.enqueue_lines.specs.declared.fault.EnqueueFault.TheVariants.{WriteFault, BadQuery, BadHanded}
-use Rattle.enqueue_lines.specs.declared.said.Said.{Said}
-use Rattle.enqueue_lines.specs.declared.said.Said.TheVariants.{End}
-use Rattle.enqueue_lines.proofs.Stream.{nothing_said, nothing_says, says_more, says_on}
+use Rattle.enqueue_lines.specs.declared.site_line.SiteLine.{SiteLine}
+use Rattle.enqueue_lines.specs.declared.site_line.SiteLine.TheVariants.{End}
+use Rattle.enqueue_lines.proofs.Stream.{no_line_yet, nothing_says, says_more, says_on}
 
 -- ---- one more group
 
 fits_more : (held : ReadySoFar) (groups : List LineGroup) (group : LineGroup) → AllFit held.ready groups
-    → Fits (held_after held groups).ready (told_by group.lines) group.ready → AllFit held.ready (groups ++ group ∷ [])
+    → Fits (held_after held groups).ready (items_of_lines group.lines) group.ready
+    → AllFit held.ready (groups ++ group ∷ [])
 fits_more held [] group all fits = (fits, tt)
 fits_more held (first ∷ later) group all fits =
     (all.0, fits_more (ready_first (ready_then held.ready first)) later group all.1 fits)
@@ -41,12 +47,14 @@ handed_more : (held : ReadySoFar) (groups : List LineGroup) (group : LineGroup)
     ≡ handed_by held groups ++ fresh (held_after held groups) (ready_then (held_after held groups).ready group)
 handed_more held [] group = append-nil (fresh held (ready_then held.ready group))
 handed_more held (first ∷ later) group =
-    ap (λ items. fresh held (ready_then held.ready first) ++ items) (handed_more (ready_first (ready_then held.ready first)) later group)
+    ap (λ items. fresh held (ready_then held.ready first) ++ items)
+        (handed_more (ready_first (ready_then held.ready first)) later group)
     ∙ sym (append_assoc (fresh held (ready_then held.ready first)) (handed_by (ready_first (ready_then held.ready first)) later)
     (fresh (held_after (ready_first (ready_then held.ready first)) later)
     (ready_then (held_after (ready_first (ready_then held.ready first)) later).ready group)))
 
-say_more : (groups : List LineGroup) (group : LineGroup) → all_say (groups ++ group ∷ []) ≡ all_say groups ++ group_says group
+say_more : (groups : List LineGroup) (group : LineGroup)
+    → all_say (groups ++ group ∷ []) ≡ all_say groups ++ group_says group
 say_more groups group =
     flat_map-append group_says groups (group ∷ [])
     ∙ ap (λ lines. all_say groups ++ lines) (append-nil (group_says group))
@@ -101,7 +109,7 @@ at_first pipe earlier before = record {
   groups = [];
   whole = λ k d within. absurd (omega (arith, within));
   fit = tt;
-  says = nothing_said [];
+  says = no_line_yet [];
   held_is = refl;
   consumed = Consumes-nil before.left;
   none_unread = refl;
@@ -136,9 +144,9 @@ stops_counted : (pipe : Pipe) (limit : ℕ) (bytes : List ℕ) (held : ReadySoFa
     (fault : EnqueueFault) → number ≡ counted_on 0 count → StopsAt pipe limit bytes held number now next fault
     → StopsAt pipe limit bytes held count (before_group now next) next fault
 unfolding before_group
-stops_counted pipe limit bytes held number count now next (BadLine told) counted stops =
-    (stops.0, lines_counted limit bytes number count now.unread next.unread (BadLine told) counted stops.1)
-stops_counted pipe limit bytes held number count now next (BadEnd told) counted stops =
+stops_counted pipe limit bytes held number count now next (BadLine bad) counted stops =
+    (stops.0, lines_counted limit bytes number count now.unread next.unread (BadLine bad) counted stops.1)
+stops_counted pipe limit bytes held number count now next (BadEnd bad) counted stops =
     let misfit = stops.2 in (
       stops.0,
       stops.1,
@@ -156,14 +164,16 @@ stops_counted pipe limit bytes held number count now next ReadFault counted stop
     (stops.0, lines_counted limit bytes number count now.unread next.unread ReadFault counted stops.1)
 stops_counted pipe limit bytes held number count now next NoMemory counted stops = stops
 stops_counted pipe limit bytes held number count now next WriteFault counted stops = stops
-stops_counted pipe limit bytes held number count now next (BadQuery told) counted stops = stops
-stops_counted pipe limit bytes held number count now next (BadHanded told) counted stops = stops
+stops_counted pipe limit bytes held number count now next (BadQuery bad) counted stops = stops
+stops_counted pipe limit bytes held number count now next (BadHanded bad) counted stops = stops
 
-module _ (pipe : Pipe) (earlier : List Item) (before now : KnownEnds) (rest : List ℕ) (held : ReadySoFar) (number index : ℕ)
+module _ (pipe : Pipe) (earlier : List Item) (before now : KnownEnds) (rest : List ℕ) (held : ReadySoFar)
+    (number index : ℕ)
     (so : SoFar pipe earlier before now rest held number index) where
   -- all that came, with what is left of it
   hands_over : (next : KnownEnds) (more : List ℕ) → Consumes now.left next.left more → next.unread ≡ now.unread
-      → next.outputs ≡ now.outputs → (hands : HandsOver pipe earlier before next (rest ++ more)) × (hands.prints.groups ≡ so.groups)
+      → next.outputs ≡ now.outputs
+      → (hands : HandsOver pipe earlier before next (rest ++ more)) × (hands.prints.groups ≡ so.groups)
   hands_over next more consumed unread outputs = (
     record {
       came = so.came ++ more;
@@ -179,7 +189,8 @@ module _ (pipe : Pipe) (earlier : List Item) (before now : KnownEnds) (rest : Li
       };
       consumed = Consumes-trans before.left now.left next.left so.came more so.consumed consumed;
       none_unread = unread ∙ so.none_unread;
-      written = subst (λ (o : KnownOutputs). WritesItems pipe (handed_by (starting earlier) so.groups) before.outputs o) (sym outputs) so.written;
+      written = subst (λ (o : KnownOutputs). WritesItems pipe (handed_by (starting earlier) so.groups) before.outputs o)
+          (sym outputs) so.written;
     },
     refl,
   )
@@ -223,18 +234,19 @@ module _ (pipe : Pipe) (earlier : List Item) (before now : KnownEnds) (rest : Li
                 lines = [];
                 after = rest;
                 whole = λ k d within. absurd (omega (arith, within));
-                says = nothing_said rest;
+                says = no_line_yet rest;
                 cause = inr (refl, counted, refl);
               },
             );
       }
 
-  pub one_more_group : (next : KnownEnds) (more left : List ℕ) (then : ReadySoFar) (numbered : ℕ) → Consumes now.left next.left more
+  pub one_more_group : (next : KnownEnds) (more left : List ℕ) (then : ReadySoFar) (numbered : ℕ)
+      → Consumes now.left next.left more
       → GroupIsHanded pipe (rest ++ more) left number numbered held then now next
       → SoFar pipe earlier before next left then numbered (index + 1)
   one_more_group next more left then numbered consumed handed =
       let was = held_after (starting earlier) so.groups in
-      let fits = subst (λ (h : ReadySoFar). Fits h.ready (told_by handed.group.lines) handed.group.ready) so.held_is handed.fits in
+      let fits = subst (λ (h : ReadySoFar). Fits h.ready (items_of_lines handed.group.lines) handed.group.ready) so.held_is handed.fits in
       let fresh_is = ap (λ (h : ReadySoFar). fresh h (ready_then h.ready handed.group)) so.held_is in
       let all = handed_more (starting earlier) so.groups handed.group in
       let lines : item_lines pipe (handed_by (starting earlier) so.groups) ++ item_lines pipe (fresh held (ready_then held.ready handed.group)) ≡ item_lines pipe (handed_by (starting earlier) (so.groups ++ handed.group ∷ [])) =
@@ -243,12 +255,14 @@ module _ (pipe : Pipe) (earlier : List Item) (before now : KnownEnds) (rest : Li
       let reports : report_lines pipe (handed_by (starting earlier) so.groups) ++ report_lines pipe (fresh held (ready_then held.ready handed.group)) ≡ report_lines pipe (handed_by (starting earlier) (so.groups ++ handed.group ∷ [])) =
       ap (λ items. report_lines pipe (handed_by (starting earlier) so.groups) ++ report_lines pipe items) fresh_is
       ∙ sym (ap (report_lines pipe) all ∙ flat_map-append (report_line pipe) (handed_by (starting earlier) so.groups) (fresh was (ready_then was.ready handed.group))) in
-      let both = written_on (item_lines pipe (handed_by (starting earlier) so.groups)) (item_lines pipe (fresh held (ready_then held.ready handed.group)))
-      (report_lines pipe (handed_by (starting earlier) so.groups)) (report_lines pipe (fresh held (ready_then held.ready handed.group)))
+      let both = written_on (item_lines pipe (handed_by (starting earlier) so.groups))
+          (item_lines pipe (fresh held (ready_then held.ready handed.group)))
+      (report_lines pipe (handed_by (starting earlier) so.groups))
+          (report_lines pipe (fresh held (ready_then held.ready handed.group)))
       before.outputs now.outputs next.outputs so.written handed.written in
       let say = say_more so.groups handed.group in
-      let said = length-append (all_say so.groups) (group_says handed.group) in
-      let length_is : length (all_say (so.groups ++ handed.group ∷ [])) ≡ length (all_say so.groups) + length (group_says handed.group) = ap length say ∙ said in
+      let parsed = length-append (all_say so.groups) (group_says handed.group) in
+      let length_is : length (all_say (so.groups ++ handed.group ∷ [])) ≡ length (all_say so.groups) + length (group_says handed.group) = ap length say ∙ parsed in
       let groups_length = length-append so.groups (handed.group ∷ []) in
       record {
         came = so.came ++ more;
@@ -257,7 +271,8 @@ module _ (pipe : Pipe) (earlier : List Item) (before now : KnownEnds) (rest : Li
         fit = fits_more (starting earlier) so.groups handed.group so.fit fits;
         says = subst (SaysLines (so.came ++ more) left) (sym say)
             (says_more [] so.came more rest left (all_say so.groups) (group_says handed.group) so.says handed.says);
-        held_is = handed.held ∙ ap (λ (h : ReadySoFar). ready_first (ready_then h.ready handed.group)) so.held_is ∙ sym (held_more (starting earlier) so.groups handed.group);
+        held_is = handed.held ∙ ap (λ (h : ReadySoFar). ready_first (ready_then h.ready handed.group)) so.held_is
+            ∙ sym (held_more (starting earlier) so.groups handed.group);
         consumed = Consumes-trans before.left now.left next.left so.came more so.consumed consumed;
         none_unread = handed.none_unread ∙ so.none_unread;
         written = subst (λ l. WritesTexts l (report_lines pipe (handed_by (starting earlier) (so.groups ++ handed.group ∷ []))) before.outputs next.outputs) lines
@@ -285,13 +300,15 @@ module _ (pipe : Pipe) (earlier : List Item) (before now : KnownEnds) (rest : Li
       };
       consumed = Consumes-trans before.left now.left next.left so.came more so.consumed consumed;
       none_unread = ended.none_unread ∙ so.none_unread;
-      written = subst (λ (o : KnownOutputs). WritesItems pipe (handed_by (starting earlier) so.groups) before.outputs o) (sym ended.quiet) so.written;
+      written = subst (λ (o : KnownOutputs). WritesItems pipe (handed_by (starting earlier) so.groups) before.outputs o)
+          (sym ended.quiet) so.written;
     },
     ended.end,
   )
 
 -- nothing was read, since memory was refused
-pub nothing_begun : (pipe : Pipe) (earlier : List Item) (before : KnownEnds) → EndsEarly pipe earlier before before NoMemory
+pub nothing_begun : (pipe : Pipe) (earlier : List Item) (before : KnownEnds)
+    → EndsEarly pipe earlier before before NoMemory
 nothing_begun pipe earlier before =
     stops_early pipe earlier before before [] (starting earlier) 0 0 (at_first pipe earlier before) before []
     site_line_limit NoMemory refl (Consumes-nil before.left) (refl, refl)
@@ -307,15 +324,17 @@ next_group pipe limit bytes rest number numbered old new before after there is h
 
 pub group_over : (pipe : Pipe) (limit : ℕ) (bytes rest : List ℕ) (number numbered : ℕ) (old new : ReadySoFar)
     (before after : KnownEnds) (there : Bool) → there ≡ false
-    → HandsGroup pipe limit bytes rest number numbered old new before after (Ok there) → NoGroupIsLeft bytes before after
+    → HandsGroup pipe limit bytes rest number numbered old new before after (Ok there)
+    → NoGroupIsLeft bytes before after
 group_over pipe limit bytes rest number numbered old new before after there is hands =
     subst (λ (b : Bool). HandsGroup pipe limit bytes rest number numbered old new before after (Ok b)) is hands
 
 -- a group that came and was taken is handed over
-pub group_given : (pipe : Pipe) (limit : ℕ) (bytes rest : List ℕ) (kept : List Said) (count ready number numbered : ℕ)
+pub group_given : (pipe : Pipe) (limit : ℕ) (bytes rest : List ℕ) (kept : List SiteLine)
+    (count ready number numbered : ℕ)
     (old new : ReadySoFar) (before after : KnownEnds) (result : Result Bool EnqueueFault)
     → GroupComes bytes rest kept count (Some ready) → numbered ≡ counted_on number count → after.unread ≡ before.unread
-    → Gives pipe (told_by kept) ready numbered old new before.outputs after.outputs result
+    → Gives pipe (items_of_lines kept) ready numbered old new before.outputs after.outputs result
     → HandsGroup pipe limit bytes rest number numbered old new before after result
 group_given pipe limit bytes rest kept count ready number numbered old new before after (Ok false) comes numbers unread gives =
     let bad = gives.more_is in cc
@@ -325,9 +344,9 @@ group_given pipe limit bytes rest kept count ready number numbered old new befor
       group = record { lines = comes.lines; ready = ready; out = comes.out };
       whole = comes.whole;
       says = comes.says;
-      fits = subst (λ (told : GroupTold). Fits old.ready told ready) same gives.fits;
-      held = subst (λ (told : GroupTold). new ≡ ready_first (ready_after old.ready told ready)) same gives.held_is;
-      written = subst (λ (told : GroupTold). WritesItems pipe (fresh old (ready_after old.ready told ready)) before.outputs after.outputs) same gives.written;
+      fits = subst (λ (items : GroupItems). Fits old.ready items ready) same gives.fits;
+      held = subst (λ (items : GroupItems). new ≡ ready_first (ready_after old.ready items ready)) same gives.held_is;
+      written = subst (λ (items : GroupItems). WritesItems pipe (fresh old (ready_after old.ready items ready)) before.outputs after.outputs) same gives.written;
       none_unread = unread;
       numbered_is = omega (arith, numbers, comes.counted);
     }
@@ -343,7 +362,7 @@ group_given pipe limit bytes rest kept count ready number numbered old new befor
           after = rest;
           whole = comes.whole;
           says = comes.says;
-          misfit = subst (λ (told : GroupTold). ¬ Fits old.ready told ready) same misfit.1;
+          misfit = subst (λ (items : GroupItems). ¬ Fits old.ready items ready) same misfit.1;
           numbered = omega (arith, numbers, comes.counted, length_is);
         },
       )
@@ -353,20 +372,20 @@ group_given pipe limit bytes rest kept count ready number numbered old new befor
           after = rest;
           whole = comes.whole;
           says = comes.says;
-          fits = subst (λ (told : GroupTold). Fits old.ready told ready) same write.1;
-          broken = subst (λ (told : GroupTold). BreaksItems pipe (fresh old (ready_after old.ready told ready)) before.outputs after.outputs) same write.2;
+          fits = subst (λ (items : GroupItems). Fits old.ready items ready) same write.1;
+          broken = subst (λ (items : GroupItems). BreaksItems pipe (fresh old (ready_after old.ready items ready)) before.outputs after.outputs) same write.2;
         },
         unread,
       )
       | inr (inr memory) ↦ subst (StopsAt pipe limit bytes old number before after) (sym memory.0) (memory.1, unread)
     ]
 
-no_lines : (lines : List Said) → length lines ≡ 0 → lines ≡ []
+no_lines : (lines : List SiteLine) → length lines ≡ 0 → lines ≡ []
 no_lines [] e = refl
 no_lines (line ∷ lines) e = absurd (omega (arith, e))
 
 -- the source is at its end: there is no group, or it is torn
-pub group_lacking : (pipe : Pipe) (limit : ℕ) (bytes rest : List ℕ) (kept : List Said) (count number numbered : ℕ)
+pub group_lacking : (pipe : Pipe) (limit : ℕ) (bytes rest : List ℕ) (kept : List SiteLine) (count number numbered : ℕ)
     (old new : ReadySoFar) (before after : KnownEnds) (result : Result Bool EnqueueFault)
     → GroupComes bytes rest kept count None → IsAtEnd after.left → HasNoLf rest → after.unread ≡ before.unread
     → after.outputs ≡ before.outputs
@@ -375,7 +394,8 @@ pub group_lacking : (pipe : Pipe) (limit : ℕ) (bytes rest : List ℕ) (kept : 
     → HandsGroup pipe limit bytes rest number numbered old new before after result
 group_lacking pipe limit bytes rest kept count number numbered old new before after (Ok more) comes end plain unread quiet ended refused =
     let none : comes.lines ≡ [] = no_lines comes.lines (omega (arith, comes.counted, ended.1)) in
-    subst (λ (m : Bool). HandsGroup pipe limit bytes rest number numbered old new before after (Ok m)) (sym ended.0) (record {
+    subst (λ (m : Bool). HandsGroup pipe limit bytes rest number numbered old new before after (Ok m)) (sym ended.0)
+        (record {
       says = subst (λ r. SaysLines bytes r []) ended.2 (subst (SaysLines bytes rest) none comes.says);
       end = end;
       none_unread = unread;
@@ -404,15 +424,22 @@ no_cause (inl lacks) bad worse = absurd (bad lacks)
 no_cause (inr many) bad worse = absurd (worse many.0)
 
 -- the group broke off
-pub group_broken : (pipe : Pipe) (limit : ℕ) (bytes : List ℕ) (held : ReadySoFar) (number : ℕ) (before after : KnownEnds)
+pub group_broken : (pipe : Pipe) (limit : ℕ) (bytes : List ℕ) (held : ReadySoFar) (number : ℕ)
+    (before after : KnownEnds)
     (fault : EnqueueFault) → after.outputs ≡ before.outputs
-    → BreaksGroup limit bytes number before.unread after.unread fault → StopsAt pipe limit bytes held number before after fault
-group_broken pipe limit bytes held number before after (BadLine told) quiet breaks = (quiet, breaks)
-group_broken pipe limit bytes held number before after (BadEnd told) quiet breaks = no_cause breaks.cause (λ bad. bad) (λ is. cc)
-group_broken pipe limit bytes held number before after NoEnd quiet breaks = no_cause breaks.cause (λ bad. bad) (λ is. cc)
+    → BreaksGroup limit bytes number before.unread after.unread fault
+    → StopsAt pipe limit bytes held number before after fault
+group_broken pipe limit bytes held number before after (BadLine bad) quiet breaks = (quiet, breaks)
+group_broken pipe limit bytes held number before after (BadEnd bad) quiet breaks =
+    no_cause breaks.cause (λ bad. bad) (λ is. cc)
+group_broken pipe limit bytes held number before after NoEnd quiet breaks =
+    no_cause breaks.cause (λ bad. bad) (λ is. cc)
 group_broken pipe limit bytes held number before after ReadFault quiet breaks = (quiet, breaks)
 group_broken pipe limit bytes held number before after NoMemory quiet breaks =
     elim breaks.cause [ inl same ↦ (quiet, same) | inr many ↦ (quiet, many.2) ]
-group_broken pipe limit bytes held number before after WriteFault quiet breaks = no_cause breaks.cause (λ bad. bad) (λ is. cc)
-group_broken pipe limit bytes held number before after (BadQuery told) quiet breaks = no_cause breaks.cause (λ bad. bad) (λ is. cc)
-group_broken pipe limit bytes held number before after (BadHanded told) quiet breaks = no_cause breaks.cause (λ bad. bad) (λ is. cc)
+group_broken pipe limit bytes held number before after WriteFault quiet breaks =
+    no_cause breaks.cause (λ bad. bad) (λ is. cc)
+group_broken pipe limit bytes held number before after (BadQuery bad) quiet breaks =
+    no_cause breaks.cause (λ bad. bad) (λ is. cc)
+group_broken pipe limit bytes held number before after (BadHanded bad) quiet breaks =
+    no_cause breaks.cause (λ bad. bad) (λ is. cc)

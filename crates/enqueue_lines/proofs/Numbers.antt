@@ -14,10 +14,10 @@ use Rattle.std.proofs.lemmas.Str.Parse.{not_in_digits, numerals_by_value, tells_
 use Rattle.std.proofs.lemmas.Str.Pattern.{IsSplitOnceResult, split_after}
 use Rattle.report_text.specs.Report.{item_text}
 use Rattle.state_core.specs.declared.item.Item.{Item}
-use Rattle.enqueue_lines.specs.Lines.{NumbersFit, IsShortItem, counts_text, rest_of, said_text, said_word}
+use Rattle.enqueue_lines.specs.Lines.{NumbersFit, IsShortItem, counts_text, rest_of, site_line_text, site_line_word}
 use Rattle.enqueue_lines.specs.Texts.{LacksByte}
-use Rattle.enqueue_lines.specs.declared.said.Said.{Said}
-use Rattle.enqueue_lines.specs.declared.said.Said.TheVariants.{Ready, NowReady, NotReady, End, Nothing}
+use Rattle.enqueue_lines.specs.declared.site_line.SiteLine.{SiteLine}
+use Rattle.enqueue_lines.specs.declared.site_line.SiteLine.TheVariants.{Ready, NowReady, NotReady, End, Nothing}
 
 -- ---- tests of each byte
 
@@ -47,7 +47,8 @@ cut_so byte front rest text (Some parts) cuts small lacks is =
 
 pub lacks_digits : (byte number : ℕ) → number < 2 ^ 64 → byte < 48 → LacksByte byte (decimal number)
 lacks_digits byte number fits small =
-    not_in_digits (numerals_by_value (AllDigits 10) tells_digits) (decimal number) byte (decimal_is_IsNumeral number fits).0.1
+    not_in_digits (numerals_by_value (AllDigits 10) tells_digits) (decimal number) byte
+        (decimal_is_IsNumeral number fits).0.1
     (λ within. omega (arith, within.0))
 
 -- ---- numbers
@@ -66,7 +67,7 @@ counts_pieces ready out = append_assoc (decimal ready) (codes " ") (decimal out)
 
 -- ---- the texts are ASCII
 
-pub ascii_word : (said : Said) → IsAscii (said_word said ++ codes " ")
+pub ascii_word : (parsed : SiteLine) → IsAscii (site_line_word parsed ++ codes " ")
 ascii_word (Ready item) = ascii_tested (codes "ready ") refl
 ascii_word (NowReady item) = ascii_tested (codes "+ready ") refl
 ascii_word (NotReady item) = ascii_tested (codes "-ready ") refl
@@ -75,10 +76,11 @@ ascii_word Nothing = ascii_tested (codes " ") refl
 
 pub ascii_item : (item : Item) → IsShortItem item → IsAscii (item_text item)
 ascii_item item short =
-    IsAscii-append _ _ (IsAscii-append _ _ (IsAscii-decimal item.change (omega (arith, short.change))) (ascii_tested (codes ",") refl))
+    IsAscii-append _ _
+        (IsAscii-append _ _ (IsAscii-decimal item.change (omega (arith, short.change))) (ascii_tested (codes ",") refl))
     (IsAscii-decimal item.set (omega (arith, short.set)))
 
-ascii_rest : (said : Said) → NumbersFit said → IsAscii (rest_of said)
+ascii_rest : (parsed : SiteLine) → NumbersFit parsed → IsAscii (rest_of parsed)
 ascii_rest (Ready item) short = ascii_item item short
 ascii_rest (NowReady item) short = ascii_item item short
 ascii_rest (NotReady item) short = ascii_item item short
@@ -87,9 +89,9 @@ ascii_rest (End ready out) short =
     (IsAscii-decimal out short.1)
 ascii_rest Nothing short = ascii_tested [] refl
 
-pub said_utf8 : (said : Said) → NumbersFit said → IsUtf8 (said_text said)
-said_utf8 said short =
-    IsUtf8-from_ascii (said_text said) (IsAscii-append (said_word said ++ codes " ") (rest_of said) (ascii_word said) (ascii_rest said short))
+pub site_line_utf8 : (parsed : SiteLine) → NumbersFit parsed → IsUtf8 (site_line_text parsed)
+site_line_utf8 parsed short =
+    IsUtf8-from_ascii (site_line_text parsed) (IsAscii-append (site_line_word parsed ++ codes " ") (rest_of parsed) (ascii_word parsed) (ascii_rest parsed short))
 
 pub item_utf8 : (item : Item) → IsShortItem item → IsUtf8 (item_text item)
 item_utf8 item short = IsUtf8-from_ascii (item_text item) (ascii_item item short)

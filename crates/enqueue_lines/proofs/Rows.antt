@@ -1,12 +1,13 @@
 -- How the rows of an answer add up.
-use Rattle.std.proofs.Common.{◌≡◌, ◌∙◌, ◌<◌, ◌+◌, ◌-◌, ◌++◌, ◌∷◌, [], ℕ, List, Option, None, Some, true, take, drop, length, refl, sym}
+use Rattle.std.proofs.Common.{◌≡◌, ◌∙◌, ◌<◌, ◌+◌, ◌-◌, ◌++◌, ◌∷◌, [], ℕ, List, Option, None, Some, true, take, drop}
+use Rattle.std.proofs.Common.{length, refl, sym}
 use Rattle.std.proofs.Common.{ap, subst, arith, suc, zero}
 use Rattle.std.specs.Prelude.{slice_get}
 use Rattle.std.specs.List.{AllZip}
 use Rattle.std.specs.Option.{option_or}
 use Rattle.std.specs.BTreeMap.{BTreeMap}
 use Rattle.std.proofs.lemmas.List.Elements.{All-push}
-use Rattle.gerrit_events.specs.Rows.{Tells}
+use Rattle.gerrit_events.specs.Rows.{SaysQueryLine}
 use Rattle.state_core.specs.declared.item.Item.{Item}
 use Rattle.gerrit_events.specs.declared.row.ChangePlace.{ChangePlace}
 use Rattle.gerrit_events.specs.declared.row.QueryLine.{QueryLine}
@@ -14,7 +15,7 @@ use Rattle.enqueue_lines.specs.Handed.{IsItemLine, IsNoItem, IsRefusedHanded}
 use Rattle.enqueue_lines.specs.declared.fault.EnqueueFault.{EnqueueFault}
 use Rattle.enqueue_lines.specs.declared.fault.EnqueueFault.TheVariants.{BadLine, BadEnd, NoEnd, ReadFault, NoMemory}
 use Rattle.enqueue_lines.specs.declared.fault.EnqueueFault.TheVariants.{WriteFault, BadQuery, BadHanded}
-use Rattle.enqueue_lines.specs.Places.{AddsLine, ArePlacesOfRows, IsTold, last_place, place_by}
+use Rattle.enqueue_lines.specs.Places.{AddsLine, ArePlacesOfRows, IsReadable, last_place, place_by}
 
 -- ---- the next of a list's elements
 
@@ -59,12 +60,13 @@ last_more (first ∷ rows) row change =
     ap (λ p. option_or p (place_by first change)) (last_more rows row change)
     ∙ or_or (place_by row change) (last_place rows change) (place_by first change)
 
-pub places_more : (before : List (List ℕ)) (line : List ℕ) (old new : BTreeMap ℕ ChangePlace) → ArePlacesOfRows before old
+pub places_more : (before : List (List ℕ)) (line : List ℕ) (old new : BTreeMap ℕ ChangePlace)
+    → ArePlacesOfRows before old
     → AddsLine line old new true → ArePlacesOfRows (before ++ line ∷ []) new
 places_more before line old new are adds = record {
   rows = are.rows ++ adds.0 ∷ [];
-  tells = zip_push Tells before are.rows line adds.0 are.tells adds.1;
-  each = All-push IsTold are.rows adds.0 are.each adds.2;
+  says_line = zip_push SaysQueryLine before are.rows line adds.0 are.says_line adds.1;
+  each = All-push IsReadable are.rows adds.0 are.each adds.2;
   placed = λ change. adds.3 change ∙ ap (option_or (place_by adds.0 change)) (are.placed change)
       ∙ sym (last_more are.rows adds.0 change);
 }
@@ -74,9 +76,9 @@ places_more before line old new are adds = record {
 pub handed_refused : (all : List (List ℕ)) (n number : ℕ) (line : List ℕ) (items : List Item) (fault : EnqueueFault)
     → number ≡ suc n → slice_get all n ≡ Some line → AllZip IsItemLine (take n all) items → IsNoItem number line fault
     → IsRefusedHanded all fault
-handed_refused all n number line items (BadHanded told) up there before none =
-    let place : told - 1 ≡ n = omega (arith, up, none.0) in
-    let some : 0 < told = omega (arith, up, none.0) in (
+handed_refused all n number line items (BadHanded bad) up there before none =
+    let place : bad - 1 ≡ n = omega (arith, up, none.0) in
+    let some : 0 < bad = omega (arith, up, none.0) in (
       line,
       some,
       subst (λ k. slice_get all k ≡ Some line) (sym place) there,
@@ -84,10 +86,10 @@ handed_refused all n number line items (BadHanded told) up there before none =
       items,
       subst (λ k. AllZip IsItemLine (take k all) items) (sym place) before,
     )
-handed_refused all n number line items (BadLine told) up there before none = none
-handed_refused all n number line items (BadEnd told) up there before none = none
+handed_refused all n number line items (BadLine bad) up there before none = none
+handed_refused all n number line items (BadEnd bad) up there before none = none
 handed_refused all n number line items NoEnd up there before none = none
 handed_refused all n number line items ReadFault up there before none = none
 handed_refused all n number line items NoMemory up there before none = none
 handed_refused all n number line items WriteFault up there before none = none
-handed_refused all n number line items (BadQuery told) up there before none = none
+handed_refused all n number line items (BadQuery bad) up there before none = none

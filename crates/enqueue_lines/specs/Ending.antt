@@ -6,18 +6,20 @@ use Rattle.std.specs.Io.KnownBytes.{Appends, IsAtEnd}
 use Rattle.byte_ends.specs.Failures.{OneFailed}
 use Rattle.line_reader.specs.Lines.{BeginsWithLine, HasNoLf, IsTooLong}
 use Rattle.state_core.specs.declared.item.Item.{Item}
-use Rattle.enqueue_lines.specs.Groups.{Fits, GroupTold, ReadySoFar, fresh, ready_first, ready_after, told_by}
+use Rattle.enqueue_lines.specs.Groups.{Fits, GroupItems, ReadySoFar, fresh, ready_first, ready_after, items_of_lines}
 use Rattle.enqueue_lines.specs.Lines.{NumbersFit}
 use Rattle.enqueue_lines.specs.Printing.{Pipe, item_lines, report_lines}
-use Rattle.enqueue_lines.specs.Running.{GroupComes, GroupIsHanded, HandsOver, IsNoEnd, KnownEnds, KnownOutputs, LineGroup}
-use Rattle.enqueue_lines.specs.Running.{NoGroupIsLeft, SaysLines, SaysPiece, StepsOn, WritesItems, WritesTexts, all_say, counted_on}
+use Rattle.enqueue_lines.specs.Running.{GroupComes, GroupIsHanded, HandsOver, IsNoEnd, KnownEnds, KnownOutputs}
+use Rattle.enqueue_lines.specs.Running.{LineGroup}
+use Rattle.enqueue_lines.specs.Running.{NoGroupIsLeft, SaysLines, SaysPiece, StepsOn, WritesItems, WritesTexts, all_say}
+use Rattle.enqueue_lines.specs.Running.{counted_on}
 use Rattle.enqueue_lines.specs.Running.{group_says, held_after, line_says, most_lines, ready_then, starting}
 use Rattle.enqueue_lines.specs.declared.fault.EnqueueFault.{EnqueueFault}
 use Rattle.enqueue_lines.specs.declared.fault.EnqueueFault.TheVariants.{BadLine, BadEnd, NoEnd, ReadFault, NoMemory}
 use Rattle.enqueue_lines.specs.declared.fault.EnqueueFault.TheVariants.{WriteFault, BadQuery, BadHanded}
 use Rattle.enqueue_lines.specs.declared.run.Step.{Step}
 use Rattle.enqueue_lines.specs.declared.run.Step.TheVariants.{GoesOn, EndsWith, Stops}
-use Rattle.enqueue_lines.specs.declared.said.Said.{Said}
+use Rattle.enqueue_lines.specs.declared.site_line.SiteLine.{SiteLine}
 
 -- the most bytes of a line that a site prints, without its line end
 abbrev pub site_line_limit : ℕ
@@ -33,27 +35,27 @@ next_number before = counted_on before 1
 abbrev pub BeginsBadly : ℕ → List ℕ → Type 0
 BeginsBadly limit bytes =
     ((piece : List ℕ) × (later : List ℕ) × BeginsWithLine limit bytes piece later
-    × ((said : Said) → NumbersFit said → ¬ SaysPiece piece said))
+    × ((parsed : SiteLine) → NumbersFit parsed → ¬ SaysPiece piece parsed))
     ⊎ IsTooLong limit bytes
 
 -- why the line with this number, at the beginning of these bytes, can't be read: it is bad, a read of the input failed,
 -- or memory was refused
 abbrev pub LacksLine : ℕ → List ℕ → ℕ → ℕ → ℕ → EnqueueFault → Type 0
-LacksLine limit bytes number unread reads (BadLine told) =
-    (told ≡ number) × BeginsBadly limit bytes × (reads ≡ unread)
-LacksLine limit bytes number unread reads (BadEnd told) = ⊥
+LacksLine limit bytes number unread reads (BadLine bad) =
+    (bad ≡ number) × BeginsBadly limit bytes × (reads ≡ unread)
+LacksLine limit bytes number unread reads (BadEnd bad) = ⊥
 LacksLine limit bytes number unread reads NoEnd = ⊥
 LacksLine limit bytes number unread reads ReadFault = OneFailed unread reads
 LacksLine limit bytes number unread reads NoMemory = reads ≡ unread
 LacksLine limit bytes number unread reads WriteFault = ⊥
-LacksLine limit bytes number unread reads (BadQuery told) = ⊥
-LacksLine limit bytes number unread reads (BadHanded told) = ⊥
+LacksLine limit bytes number unread reads (BadQuery bad) = ⊥
+LacksLine limit bytes number unread reads (BadHanded bad) = ⊥
 
 -- ---- a group that isn't handed over
 
 -- some lines of a group came, none of which ends it, and the next line can't be read, or couldn't be counted
 pub record BreaksGroup (limit : ℕ) (bytes : List ℕ) (before unread reads : ℕ) (fault : EnqueueFault) : Type 0 where
-  pub lines : List Said
+  pub lines : List SiteLine
   pub after : List ℕ
   pub whole : All IsNoEnd lines
   pub says : SaysLines bytes after lines
@@ -66,12 +68,12 @@ pub record IsMisfit (bytes : List ℕ) (ready : List Item) (before number : ℕ)
   pub after : List ℕ
   pub whole : All IsNoEnd group.lines
   pub says : SaysLines bytes after (group_says group)
-  pub misfit : ¬ Fits ready (told_by group.lines) group.ready
+  pub misfit : ¬ Fits ready (items_of_lines group.lines) group.ready
   pub numbered : number ≡ next_number (before + length group.lines)
 
 -- the input ended after some lines of a group, none of which ends it, or within a line
 pub record IsTorn (bytes : List ℕ) (left : Option (List ℕ)) : Type 0 where
-  pub lines : List Said
+  pub lines : List SiteLine
   pub after : List ℕ
   pub whole : All IsNoEnd lines
   pub says : SaysLines bytes after lines
@@ -103,7 +105,7 @@ pub record BreaksWriting (pipe : Pipe) (bytes : List ℕ) (held : ReadySoFar) (o
   pub after : List ℕ
   pub whole : All IsNoEnd group.lines
   pub says : SaysLines bytes after (group_says group)
-  pub fits : Fits held.ready (told_by group.lines) group.ready
+  pub fits : Fits held.ready (items_of_lines group.lines) group.ready
   pub broken : BreaksItems pipe (fresh held (ready_then held.ready group)) old new
 
 -- why the next group, which begins these bytes after so many lines, isn't handed over: nothing of it was written,
@@ -143,12 +145,13 @@ HandsAll pipe earlier old new (Err fault) = EndsEarly pipe earlier old new fault
 -- ---- the contracts of the parts of a step
 
 -- what the next line says, if there is one
-abbrev pub SaysNext : ℕ → List ℕ → List ℕ → ℕ → ℕ → ℕ → Result (Option Said) EnqueueFault → Type 0
+abbrev pub SaysNext : ℕ → List ℕ → List ℕ → ℕ → ℕ → ℕ → Result (Option SiteLine) EnqueueFault → Type 0
 SaysNext limit bytes rest number unread reads (Ok read) = SaysLines bytes rest (line_says read) × (reads ≡ unread)
 SaysNext limit bytes rest number unread reads (Err fault) = LacksLine limit bytes number unread reads fault
 
 -- how a group goes on after the next line
-abbrev pub TakesLine : ℕ → List ℕ → List ℕ → List Said → List Said → ℕ → ℕ → ℕ → Result Step EnqueueFault → Type 0
+abbrev pub TakesLine : ℕ → List ℕ → List ℕ → List SiteLine → List SiteLine → ℕ → ℕ → ℕ → Result Step EnqueueFault
+    → Type 0
 TakesLine limit bytes rest old new number unread reads (Ok step) =
     StepsOn bytes rest old new step × (reads ≡ unread)
 TakesLine limit bytes rest old new number unread reads (Err fault) = LacksLine limit bytes number unread reads fault
@@ -160,7 +163,7 @@ CountsStep old new (EndsWith ready) = new ≡ next_number old
 CountsStep old new Stops = new ≡ old
 
 -- the lines of a group have come, after so many others
-abbrev pub ReadsGroup : ℕ → List ℕ → List ℕ → List Said → ℕ → ℕ → ℕ → ℕ → Result (Option ℕ) EnqueueFault → Type 0
+abbrev pub ReadsGroup : ℕ → List ℕ → List ℕ → List SiteLine → ℕ → ℕ → ℕ → ℕ → Result (Option ℕ) EnqueueFault → Type 0
 ReadsGroup limit bytes rest kept before count unread reads (Ok ended) =
     GroupComes bytes rest kept count ended × (reads ≡ unread)
 ReadsGroup limit bytes rest kept before count unread reads (Err fault) =
@@ -185,24 +188,24 @@ SendsItems pipe items old new (Err fault) =
 
 -- a group that came, whose end line has this number, is handed over; or its end doesn't fit, writing broke off, or
 -- memory was refused
-pub record IsGiven (pipe : Pipe) (told : GroupTold) (ready : ℕ) (held next : ReadySoFar) (old new : KnownOutputs)
+pub record IsGiven (pipe : Pipe) (group : GroupItems) (ready : ℕ) (held next : ReadySoFar) (old new : KnownOutputs)
     (more : Bool) : Type 0 where
   pub more_is : more ≡ true
-  pub fits : Fits held.ready told ready
-  pub held_is : next ≡ ready_first (ready_after held.ready told ready)
-  pub written : WritesItems pipe (fresh held (ready_after held.ready told ready)) old new
+  pub fits : Fits held.ready group ready
+  pub held_is : next ≡ ready_first (ready_after held.ready group ready)
+  pub written : WritesItems pipe (fresh held (ready_after held.ready group ready)) old new
 
-abbrev pub IsNotGiven : Pipe → GroupTold → ℕ → ℕ → ReadySoFar → KnownOutputs → KnownOutputs → EnqueueFault → Type 0
-IsNotGiven pipe told ready number held old new fault =
-    ((fault ≡ BadEnd number) × (¬ Fits held.ready told ready) × (new ≡ old))
-    ⊎ ((fault ≡ WriteFault) × Fits held.ready told ready
-    × BreaksItems pipe (fresh held (ready_after held.ready told ready)) old new)
+abbrev pub IsNotGiven : Pipe → GroupItems → ℕ → ℕ → ReadySoFar → KnownOutputs → KnownOutputs → EnqueueFault → Type 0
+IsNotGiven pipe group ready number held old new fault =
+    ((fault ≡ BadEnd number) × (¬ Fits held.ready group ready) × (new ≡ old))
+    ⊎ ((fault ≡ WriteFault) × Fits held.ready group ready
+    × BreaksItems pipe (fresh held (ready_after held.ready group ready)) old new)
     ⊎ ((fault ≡ NoMemory) × (new ≡ old))
 
-abbrev pub Gives : Pipe → GroupTold → ℕ → ℕ → ReadySoFar → ReadySoFar → KnownOutputs → KnownOutputs
+abbrev pub Gives : Pipe → GroupItems → ℕ → ℕ → ReadySoFar → ReadySoFar → KnownOutputs → KnownOutputs
     → Result Bool EnqueueFault → Type 0
-Gives pipe told ready number held next old new (Ok more) = IsGiven pipe told ready held next old new more
-Gives pipe told ready number held next old new (Err fault) = IsNotGiven pipe told ready number held old new fault
+Gives pipe group ready number held next old new (Ok more) = IsGiven pipe group ready held next old new more
+Gives pipe group ready number held next old new (Err fault) = IsNotGiven pipe group ready number held old new fault
 
 -- the next group was handed over; or there is none; or this is why it can't be handed over
 abbrev pub HandsGroup : Pipe → ℕ → List ℕ → List ℕ → ℕ → ℕ → ReadySoFar → ReadySoFar → KnownEnds → KnownEnds

@@ -6,8 +6,8 @@ use Rattle.std.specs.List.{IsDistinct, list_any}
 use Rattle.std.specs.Ordering.{eq_by_cmp}
 use Rattle.state_core.specs.declared.item.Item.{Item}
 use Rattle.state_core.specs.Items.{item_cmp}
-use Rattle.enqueue_lines.specs.declared.said.Said.{Said}
-use Rattle.enqueue_lines.specs.declared.said.Said.TheVariants.{Ready, NowReady, NotReady, End, Nothing}
+use Rattle.enqueue_lines.specs.declared.site_line.SiteLine.{SiteLine}
+use Rattle.enqueue_lines.specs.declared.site_line.SiteLine.TheVariants.{Ready, NowReady, NotReady, End, Nothing}
 use Rattle.report_changes.specs.Listing.{same_item}
 
 -- whether an item is among these
@@ -20,25 +20,25 @@ AreNamedOnce items = IsDistinct (eq_by_cmp item_cmp) items
 
 -- ---- a group: the items that its lines list as ready, say to be ready now, and say not to be any more
 
-pub record GroupTold : Type 0 where
+pub record GroupItems : Type 0 where
   pub listed : List Item
   pub added : List Item
   pub removed : List Item
 
-abbrev pub listed_by : Said → List Item
+abbrev pub listed_by : SiteLine → List Item
 listed_by (Ready item) = item ∷ []
-listed_by said = []
+listed_by parsed = []
 
-abbrev pub added_by : Said → List Item
+abbrev pub added_by : SiteLine → List Item
 added_by (NowReady item) = item ∷ []
-added_by said = []
+added_by parsed = []
 
-abbrev pub removed_by : Said → List Item
+abbrev pub removed_by : SiteLine → List Item
 removed_by (NotReady item) = item ∷ []
-removed_by said = []
+removed_by parsed = []
 
-abbrev pub told_by : List Said → GroupTold
-told_by lines = record {
+abbrev pub items_of_lines : List SiteLine → GroupItems
+items_of_lines lines = record {
   listed = flat_map listed_by lines;
   added = flat_map added_by lines;
   removed = flat_map removed_by lines;
@@ -51,25 +51,25 @@ told_by lines = record {
 abbrev pub is_none : List Item → Bool
 is_none items = length items == 0
 
-abbrev pub is_report : GroupTold → ℕ → Bool
-is_report told count = (count == 0) || not (is_none told.listed)
+abbrev pub is_report : GroupItems → ℕ → Bool
+is_report group count = (count == 0) || not (is_none group.listed)
 
-abbrev pub ready_following : List Item → GroupTold → List Item
-ready_following before told = filter (λ item. not (is_among told.removed item)) before ++ told.added
+abbrev pub ready_following : List Item → GroupItems → List Item
+ready_following before group = filter (λ item. not (is_among group.removed item)) before ++ group.added
 
-abbrev pub ready_after : List Item → GroupTold → ℕ → List Item
-ready_after before told count = if is_report told count then told.listed else ready_following before told
+abbrev pub ready_after : List Item → GroupItems → ℕ → List Item
+ready_after before group count = if is_report group count then group.listed else ready_following before group
 
 -- a report doesn't say what changed: it adds nothing, and takes nothing away from what it lists
-abbrev pub is_one_kind : GroupTold → ℕ → Bool
-is_one_kind told count =
-    not (is_report told count) || (is_none told.added && (is_none told.listed || is_none told.removed))
+abbrev pub is_one_kind : GroupItems → ℕ → Bool
+is_one_kind group count =
+    not (is_report group count) || (is_none group.added && (is_none group.listed || is_none group.removed))
 
 -- the end line fits the lines before it: they are of one kind, and make so many items ready, each once
-pub record Fits (before : List Item) (told : GroupTold) (count : ℕ) : Type 0 where
-  pub one_kind : is_one_kind told count ≡ true
-  pub counted : length (ready_after before told count) ≡ count
-  pub apart : AreNamedOnce (ready_after before told count)
+pub record Fits (before : List Item) (group : GroupItems) (count : ℕ) : Type 0 where
+  pub one_kind : is_one_kind group count ≡ true
+  pub counted : length (ready_after before group count) ≡ count
+  pub apart : AreNamedOnce (ready_after before group count)
 
 -- ---- what is handed over
 

@@ -12,12 +12,13 @@ IsItemLine line item = line ≡ item_text item
 
 -- the line of this number is no item; or memory was refused
 abbrev pub IsNoItem : ℕ → List ℕ → EnqueueFault → Type 0
-IsNoItem number line (BadHanded told) = (told ≡ number) × ((item : Item) → IsShortItem item → ¬ IsItemLine line item)
+IsNoItem number line (BadHanded bad) = (bad ≡ number) × ((item : Item) → IsShortItem item → ¬ IsItemLine line item)
 IsNoItem number line fault = fault ≡ NoMemory
 
 -- the line with this number, from 1, is the first that is no item; or memory was refused
 abbrev pub IsRefusedHanded : List (List ℕ) → EnqueueFault → Type 0
 IsRefusedHanded lines (BadHanded number) =
-    (line : List ℕ) × (0 < number) × (slice_get lines (number - 1) ≡ Some line) × IsNoItem number line (BadHanded number)
+    (line : List ℕ) × (0 < number) × (slice_get lines (number - 1) ≡ Some line)
+        × IsNoItem number line (BadHanded number)
     × (items : List Item) × AllZip IsItemLine (take (number - 1) lines) items
 IsRefusedHanded lines fault = fault ≡ NoMemory

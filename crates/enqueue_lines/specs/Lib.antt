@@ -4,7 +4,7 @@ pub mod Quoting
 pub mod Template
 pub mod Lines
 pub mod Groups
-pub mod Telling
+pub mod KeptGroup
 pub mod Keeping
 pub mod Places
 pub mod Handed

@@ -1,34 +1,35 @@
 -- What is handed over of lines as they come: the lines are those of whole groups, one after the other, and then some of
 -- the next group. A group is handed over once its end line has come.
-use Rattle.std.specs.Prelude.{◌≡◌, ◌+◌, ◌-◌, ◌^◌, ℕ, List, [], ◌∷◌, ◌++◌, Option, None, Some, All, flat_map, length, min}
+use Rattle.std.specs.Prelude.{◌≡◌, ◌+◌, ◌-◌, ◌^◌, ℕ, List, [], ◌∷◌, ◌++◌, Option, None, Some, All, flat_map, length}
+use Rattle.std.specs.Prelude.{min}
 use Rattle.std.specs.Io.KnownBytes.{Appends, Consumes, IsAtEnd}
 use Rattle.std.specs.List.{AllZip}
 use Rattle.byte_ends.specs.Lines.{as_line, without_cr}
 use Rattle.state_core.specs.declared.item.Item.{Item}
-use Rattle.enqueue_lines.specs.Groups.{Fits, ReadySoFar, fresh, handed_over, ready_first, ready_after, told_by}
+use Rattle.enqueue_lines.specs.Groups.{Fits, ReadySoFar, fresh, handed_over, ready_first, ready_after, items_of_lines}
 use Rattle.enqueue_lines.specs.Lines.{LineSays}
 use Rattle.enqueue_lines.specs.Printing.{Pipe, item_lines, report_lines}
 use Rattle.enqueue_lines.specs.declared.run.Step.{Step}
 use Rattle.enqueue_lines.specs.declared.run.Step.TheVariants.{GoesOn, EndsWith, Stops}
-use Rattle.enqueue_lines.specs.declared.said.Said.{Said}
-use Rattle.enqueue_lines.specs.declared.said.Said.TheVariants.{Ready, NowReady, NotReady, End, Nothing}
+use Rattle.enqueue_lines.specs.declared.site_line.SiteLine.{SiteLine}
+use Rattle.enqueue_lines.specs.declared.site_line.SiteLine.TheVariants.{Ready, NowReady, NotReady, End, Nothing}
 
 -- ---- groups
 
 -- what the lines of a group say before its end line, and what that says
 pub record LineGroup : Type 0 where
-  pub lines : List Said
+  pub lines : List SiteLine
   pub ready : ℕ
   pub out : ℕ
 
-abbrev pub group_says : LineGroup → List Said
+abbrev pub group_says : LineGroup → List SiteLine
 group_says group = group.lines ++ End group.ready group.out ∷ []
 
-abbrev pub all_say : List LineGroup → List Said
+abbrev pub all_say : List LineGroup → List SiteLine
 all_say groups = flat_map group_says groups
 
 -- no line but the last ends the group
-abbrev pub IsNoEnd : Said → Type 0
+abbrev pub IsNoEnd : SiteLine → Type 0
 IsNoEnd (Ready item) = Unit {0}
 IsNoEnd (NowReady item) = Unit {0}
 IsNoEnd (NotReady item) = Unit {0}
@@ -42,7 +43,7 @@ AreWhole groups = All (λ group. All IsNoEnd group.lines) groups
 
 -- what is ready after a group, where this was ready before
 abbrev pub ready_then : List Item → LineGroup → List Item
-ready_then before group = ready_after before (told_by group.lines) group.ready
+ready_then before group = ready_after before (items_of_lines group.lines) group.ready
 
 abbrev pub ready_in_turn : List Item → List LineGroup → List (List Item)
 ready_in_turn before [] = []
@@ -52,7 +53,7 @@ ready_in_turn before (group ∷ later) = ready_then before group ∷ ready_in_tu
 abbrev pub AllFit : List Item → List LineGroup → Type 0
 AllFit before [] = Unit {0}
 AllFit before (group ∷ later) =
-    Fits before (told_by group.lines) group.ready × AllFit (ready_then before group) later
+    Fits before (items_of_lines group.lines) group.ready × AllFit (ready_then before group) later
 
 -- what is held after these groups
 abbrev pub held_after : ReadySoFar → List LineGroup → ReadySoFar
@@ -69,11 +70,11 @@ starting earlier = record { ready = []; earlier = earlier }
 
 -- ---- lines in bytes
 
-abbrev pub SaysPiece : List ℕ → Said → Type 0
-SaysPiece piece said = LineSays (without_cr piece) said
+abbrev pub SaysPiece : List ℕ → SiteLine → Type 0
+SaysPiece piece parsed = LineSays (without_cr piece) parsed
 
 -- the bytes are lines that say this, and then a rest
-pub record SaysLines (bytes rest : List ℕ) (lines : List Said) : Type 0 where
+pub record SaysLines (bytes rest : List ℕ) (lines : List SiteLine) : Type 0 where
   pub pieces : List (List ℕ)
   pub whole : bytes ≡ flat_map as_line pieces ++ rest
   pub each : AllZip SaysPiece pieces lines
@@ -134,31 +135,34 @@ pub record HandsOver (pipe : Pipe) (earlier : List Item) (old new : KnownEnds) (
 -- ---- the parts of a step
 
 -- a line that came says this; or there is no more, and the rest is held
-abbrev pub line_says : Option Said → List Said
+abbrev pub line_says : Option SiteLine → List SiteLine
 line_says None = []
-line_says (Some said) = said ∷ []
+line_says (Some parsed) = parsed ∷ []
 
-abbrev pub IsSaidAs : List ℕ → Option Said → Type 0
-IsSaidAs line None = ⊥
-IsSaidAs line (Some said) = LineSays line said
+abbrev pub IsSiteLine : List ℕ → Option SiteLine → Type 0
+IsSiteLine line None = ⊥
+IsSiteLine line (Some parsed) = LineSays line parsed
 
 -- what a line does to the kept lines of a group: an end line ends the group, and of any other what it says is kept
-abbrev pub KeepsSaid : Said → List Said → List Said → Step → Type 0
-KeepsSaid (End ready out) old new step = (step ≡ EndsWith ready) × (new ≡ old)
-KeepsSaid (Ready item) old new step = (step ≡ GoesOn) × (told_by new ≡ told_by (old ++ Ready item ∷ []))
-KeepsSaid (NowReady item) old new step = (step ≡ GoesOn) × (told_by new ≡ told_by (old ++ NowReady item ∷ []))
-KeepsSaid (NotReady item) old new step = (step ≡ GoesOn) × (told_by new ≡ told_by (old ++ NotReady item ∷ []))
-KeepsSaid Nothing old new step = (step ≡ GoesOn) × (told_by new ≡ told_by (old ++ Nothing ∷ []))
+abbrev pub KeepsSiteLine : SiteLine → List SiteLine → List SiteLine → Step → Type 0
+KeepsSiteLine (End ready out) old new step = (step ≡ EndsWith ready) × (new ≡ old)
+KeepsSiteLine (Ready item) old new step =
+    (step ≡ GoesOn) × (items_of_lines new ≡ items_of_lines (old ++ Ready item ∷ []))
+KeepsSiteLine (NowReady item) old new step =
+    (step ≡ GoesOn) × (items_of_lines new ≡ items_of_lines (old ++ NowReady item ∷ []))
+KeepsSiteLine (NotReady item) old new step =
+    (step ≡ GoesOn) × (items_of_lines new ≡ items_of_lines (old ++ NotReady item ∷ []))
+KeepsSiteLine Nothing old new step = (step ≡ GoesOn) × (items_of_lines new ≡ items_of_lines (old ++ Nothing ∷ []))
 
 -- so the next line is read, of these bytes, after which this is held
-abbrev pub StepsOn : List ℕ → List ℕ → List Said → List Said → Step → Type 0
-StepsOn bytes rest old new GoesOn = (said : Said) × SaysLines bytes rest (said ∷ []) × IsNoEnd said
-    × (told_by new ≡ told_by (old ++ said ∷ []))
+abbrev pub StepsOn : List ℕ → List ℕ → List SiteLine → List SiteLine → Step → Type 0
+StepsOn bytes rest old new GoesOn = (parsed : SiteLine) × SaysLines bytes rest (parsed ∷ []) × IsNoEnd parsed
+    × (items_of_lines new ≡ items_of_lines (old ++ parsed ∷ []))
 StepsOn bytes rest old new (EndsWith ready) = (out : ℕ) × SaysLines bytes rest (End ready out ∷ []) × (new ≡ old)
 StepsOn bytes rest old new Stops = SaysLines bytes rest [] × (new ≡ old)
 
 -- what has come of a group: all its lines, or some
-abbrev pub with_end : List Said → Option ℕ → ℕ → List Said
+abbrev pub with_end : List SiteLine → Option ℕ → ℕ → List SiteLine
 with_end lines None out = lines
 with_end lines (Some ready) out = lines ++ End ready out ∷ []
 
@@ -171,12 +175,12 @@ abbrev pub counted_on : ℕ → ℕ → ℕ
 counted_on before more = min (before + more) most_lines
 
 -- these lines came; those that say something are kept, and all of them are counted
-pub record GroupComes (bytes rest : List ℕ) (kept : List Said) (count : ℕ) (ended : Option ℕ) : Type 0 where
-  pub lines : List Said
+pub record GroupComes (bytes rest : List ℕ) (kept : List SiteLine) (count : ℕ) (ended : Option ℕ) : Type 0 where
+  pub lines : List SiteLine
   pub out : ℕ
   pub whole : All IsNoEnd lines
   pub says : SaysLines bytes rest (with_end lines ended out)
-  pub kept_is : told_by kept ≡ told_by lines
+  pub kept_is : items_of_lines kept ≡ items_of_lines lines
   pub counted : count ≡ counted_on 0 (length (with_end lines ended out))
 
 -- the lines and the reports of these items were written
@@ -190,7 +194,7 @@ pub record GroupIsHanded (pipe : Pipe) (bytes rest : List ℕ) (number numbered 
   pub group : LineGroup
   pub whole : All IsNoEnd group.lines
   pub says : SaysLines bytes rest (group_says group)
-  pub fits : Fits old.ready (told_by group.lines) group.ready
+  pub fits : Fits old.ready (items_of_lines group.lines) group.ready
   pub held : new ≡ ready_first (ready_then old.ready group)
   pub written : WritesItems pipe (fresh old (ready_then old.ready group)) before.outputs after.outputs
   pub none_unread : after.unread ≡ before.unread

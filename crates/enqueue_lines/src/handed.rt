@@ -7,7 +7,7 @@ ghost use Rattle.enqueue_lines.specs.Handed.{IsItemLine, IsNoItem, IsRefusedHand
 
 use super::fault::EnqueueFault;
 use super::items::ItemSet;
-use super::said::read_item;
+use super::site_line::read_item;
 use byte_ends::Lines;
 use state_core::Item;
 use std::alloc::Global;

@@ -2,17 +2,17 @@
 
 ghost use Rattle.std.specs.Prelude.{◌≡◌, ◌++◌, ◌||◌, [], ℕ, List, Contains, IfOk, MatchOption, OnErr, OnOk};
 ghost use Rattle.std.specs.Prelude.{filter, flat_map, length, not};
-ghost use Rattle.enqueue_lines.specs.Groups.{Fits, ReadySoFar, StaysReady, GroupTold, added_by, ready_following, fresh};
+ghost use Rattle.enqueue_lines.specs.Groups.{Fits, ReadySoFar, StaysReady, GroupItems, added_by, ready_following, fresh};
 ghost use Rattle.enqueue_lines.specs.Groups.{handed_over, is_among};
 ghost use Rattle.enqueue_lines.specs.Groups.{ready_first, is_one_kind, is_report, listed_by, ready_after, removed_by};
-ghost use Rattle.enqueue_lines.specs.Groups.{told_by};
-ghost use Rattle.enqueue_lines.specs.Telling.{told_shown};
+ghost use Rattle.enqueue_lines.specs.Groups.{items_of_lines};
+ghost use Rattle.enqueue_lines.specs.KeptGroup.{group_items};
 ghost use Rattle.std.specs.List.Sorted.{IsSorted};
 ghost use Rattle.state_core.specs.declared.item.Item.{Item};
 ghost use Rattle.state_core.specs.Items.{item_cmp};
 
 use super::items::{ItemSet, has_item, in_order};
-use super::said::Said;
+use super::site_line::SiteLine;
 use state_core::Item;
 use std::alloc::{AllocError, Global};
 use std::marker::Model;
@@ -51,18 +51,18 @@ impl Handing {
     pub fn take(
         &mut self,
         alloc: Global,
-        lines: &[Said],
+        lines: &[SiteLine],
         count: u64,
     ) -> Result<Option<Vec<Item>>, AllocError>
         ensures taken { IfOk result (λ made. MatchOption made
-            ((¬ Fits self.old.ready (told_by lines.now) count) × (self.new ≡ self.old))
-            (λ items. Fits self.old.ready (told_by lines.now) count
-            × (items.items ≡ fresh self.old (ready_after self.old.ready (told_by lines.now) count))
-            × (self.new ≡ ready_first (ready_after self.old.ready (told_by lines.now) count)))) }
+            ((¬ Fits self.old.ready (items_of_lines lines.now) count) × (self.new ≡ self.old))
+            (λ items. Fits self.old.ready (items_of_lines lines.now) count
+            × (items.items ≡ fresh self.old (ready_after self.old.ready (items_of_lines lines.now) count))
+            × (self.new ≡ ready_first (ready_after self.old.ready (items_of_lines lines.now) count)))) }
         ensures kept { OnErr result (self.new ≡ self.old) }
     {
-        let told = Group::of(alloc, lines)?;
-        let Some(ready) = self.ready_after(alloc, told, count)? else {
+        let group = Group::of(alloc, lines)?;
+        let Some(ready) = self.ready_after(alloc, group, count)? else {
             return Ok(None);
         };
         let items = self.fresh(alloc, ready.as_slice())?;
@@ -75,18 +75,18 @@ impl Handing {
     fn ready_after(
         &self,
         alloc: Global,
-        told: Group,
+        group: Group,
         count: u64,
     ) -> Result<Option<ItemSet>, AllocError>
         ensures { IfOk result (λ made. MatchOption made
-            (¬ Fits self.now.ready (told_shown told) count)
-            (λ ready. Fits self.now.ready (told_shown told) count
-            × (ready ≡ ready_after self.now.ready (told_shown told) count))) }
+            (¬ Fits self.now.ready (group_items group) count)
+            (λ ready. Fits self.now.ready (group_items group) count
+            × (ready ≡ ready_after self.now.ready (group_items group) count))) }
     {
-        if !told.is_one_kind(count) {
+        if !group.is_one_kind(count) {
             return Ok(None);
         }
-        let ready = told.ready_after(alloc, &self.ready, count)?;
+        let ready = group.ready_after(alloc, &self.ready, count)?;
         if ready.len() as u64 != count {
             return Ok(None);
         }
@@ -130,8 +130,8 @@ struct Group {
 
 impl Group {
     /// What these lines say.
-    fn of(alloc: Global, lines: &[Said]) -> Result<Group, AllocError>
-        ensures { IfOk result (λ told. told_shown told ≡ told_by lines.now) }
+    fn of(alloc: Global, lines: &[SiteLine]) -> Result<Group, AllocError>
+        ensures { IfOk result (λ group. group_items group ≡ items_of_lines lines.now) }
     {
         Ok(Group {
             listed: listed_in(alloc, lines)?,
@@ -142,14 +142,14 @@ impl Group {
 
     /// Whether the lines are those of a whole report, where so many items are ready after them.
     fn is_report(&self, count: u64) -> bool
-        ensures { result ≡ is_report (told_shown self.now) count }
+        ensures { result ≡ is_report (group_items self.now) count }
     {
         count == 0 || !self.listed.is_empty()
     }
 
     /// Whether the lines are of one kind.
     fn is_one_kind(&self, count: u64) -> bool
-        ensures { result ≡ is_one_kind (told_shown self.now) count }
+        ensures { result ≡ is_one_kind (group_items self.now) count }
     {
         !self.is_report(count)
             || (self.added.is_empty() && (self.listed.is_empty() || self.removed.is_empty()))
@@ -162,7 +162,7 @@ impl Group {
         before: &ItemSet,
         count: u64,
     ) -> Result<Vec<Item>, AllocError>
-        ensures { IfOk result (λ ready. ready.items ≡ ready_after before.now (told_shown self) count) }
+        ensures { IfOk result (λ ready. ready.items ≡ ready_after before.now (group_items self) count) }
     {
         if self.is_report(count) {
             return Ok(self.listed);
@@ -207,12 +207,12 @@ fn without(alloc: Global, before: &[Item], ordered: &[Item]) -> Result<Vec<Item>
 }
 
 /// The items that lines list as ready.
-fn listed_in(alloc: Global, lines: &[Said]) -> Result<Vec<Item>, AllocError>
+fn listed_in(alloc: Global, lines: &[SiteLine]) -> Result<Vec<Item>, AllocError>
     ensures { IfOk result (λ items. items.items ≡ flat_map listed_by lines.now) }
 {
     let mut items = Vec::new(alloc);
-    for said in lines {
-        if let Said::Ready(item) = said {
+    for parsed in lines {
+        if let SiteLine::Ready(item) = parsed {
             items.push(*item)?;
         }
     }
@@ -220,12 +220,12 @@ fn listed_in(alloc: Global, lines: &[Said]) -> Result<Vec<Item>, AllocError>
 }
 
 /// The items that lines say to be ready now.
-fn added_in(alloc: Global, lines: &[Said]) -> Result<Vec<Item>, AllocError>
+fn added_in(alloc: Global, lines: &[SiteLine]) -> Result<Vec<Item>, AllocError>
     ensures { IfOk result (λ items. items.items ≡ flat_map added_by lines.now) }
 {
     let mut items = Vec::new(alloc);
-    for said in lines {
-        if let Said::NowReady(item) = said {
+    for parsed in lines {
+        if let SiteLine::NowReady(item) = parsed {
             items.push(*item)?;
         }
     }
@@ -233,12 +233,12 @@ fn added_in(alloc: Global, lines: &[Said]) -> Result<Vec<Item>, AllocError>
 }
 
 /// The items that lines say not to be ready any more.
-fn removed_in(alloc: Global, lines: &[Said]) -> Result<Vec<Item>, AllocError>
+fn removed_in(alloc: Global, lines: &[SiteLine]) -> Result<Vec<Item>, AllocError>
     ensures { IfOk result (λ items. items.items ≡ flat_map removed_by lines.now) }
 {
     let mut items = Vec::new(alloc);
-    for said in lines {
-        if let Said::NotReady(item) = said {
+    for parsed in lines {
+        if let SiteLine::NotReady(item) = parsed {
             items.push(*item)?;
         }
     }

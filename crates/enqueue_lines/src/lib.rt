@@ -40,7 +40,7 @@ mod pipeline;
 mod places;
 mod quoting;
 mod run;
-mod said;
+mod site_line;
 mod template;
 
 pub use fault::{EnqueueFault, TemplateFault};
@@ -51,5 +51,5 @@ pub use pipeline::{Pipeline, Texts};
 pub use places::{Places, read_places};
 pub use quoting::{add_quoted, quoted_words_are_read_again};
 pub use run::hand_over;
-pub use said::{Said, read_item, read_line};
+pub use site_line::{SiteLine, read_item, read_line};
 pub use template::{Field, Piece, Template, Values, templates_have_one_reading};

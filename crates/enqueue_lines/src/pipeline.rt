@@ -8,7 +8,7 @@ ghost use Rattle.enqueue_lines.specs.Printing.{item_line, item_lines, line_at, p
 ghost use Rattle.enqueue_lines.specs.Printing.{unplaced_line};
 
 use super::places::Places;
-use super::said::add_item;
+use super::site_line::add_item;
 use super::template::{Template, Values};
 use gerrit_events::{ChangePlace, Projects};
 use refusal_line::{Part, refusal_line};

@@ -5,17 +5,17 @@ ghost use Rattle.std.specs.Io.KnownBytes.{Consumes, IsAtEnd};
 ghost use Rattle.line_reader.specs.Lines.{HasNoLf};
 ghost use Rattle.enqueue_lines.specs.Ending.{CountsStep, Gives, HandsAll, HandsGroup, ReadsGroup, SaysNext, SendsItems};
 ghost use Rattle.enqueue_lines.specs.Ending.{SendsLines, SendsTexts, TakesLine, next_number};
-ghost use Rattle.enqueue_lines.specs.Groups.{Fits, ReadySoFar, fresh, ready_first, ready_after, told_by};
+ghost use Rattle.enqueue_lines.specs.Groups.{Fits, ReadySoFar, fresh, ready_first, ready_after, items_of_lines};
 ghost use Rattle.enqueue_lines.specs.Lines.{NumbersFit, LineSays};
 ghost use Rattle.enqueue_lines.specs.Printing.{pipe_shown};
-ghost use Rattle.enqueue_lines.specs.Running.{IsSaidAs, KeepsSaid, ends_at, outputs_at};
-ghost use Rattle.enqueue_lines.specs.declared.said.Said.{Said};
+ghost use Rattle.enqueue_lines.specs.Running.{IsSiteLine, KeepsSiteLine, ends_at, outputs_at};
+ghost use Rattle.enqueue_lines.specs.declared.site_line.SiteLine.{SiteLine};
 
 use super::fault::EnqueueFault;
 use super::handing::Handing;
 use super::items::ItemSet;
 use super::pipeline::Pipeline;
-use super::said::{Said, read_line};
+use super::site_line::{SiteLine, read_line};
 use byte_ends::{BytesFault, Drain, Source, write_all};
 use line_reader::LineReader;
 use state_core::Item;
@@ -27,7 +27,7 @@ const LINE_LIMIT: usize = 4096;
 /// A group whose lines come: what they say, and how many came.
 #[derive(Drop)]
 struct Coming {
-    lines: Vec<Said>,
+    lines: Vec<SiteLine>,
     count: u64,
 }
 
@@ -149,7 +149,7 @@ fn give<O: Drain, E: Drain>(
     output: &mut O,
     errors: &mut E,
 ) -> Result<bool, EnqueueFault>
-    ensures { Gives (pipe_shown pipeline.now) (told_by coming.now.lines.items) ready number handing.old handing.new
+    ensures { Gives (pipe_shown pipeline.now) (items_of_lines coming.now.lines.items) ready number handing.old handing.new
         (outputs_at (O.taken output.old) (O.failed output.old) (E.taken errors.old) (E.failed errors.old))
         (outputs_at (O.taken output.new) (O.failed output.new) (E.taken errors.new) (E.failed errors.new)) result }
 {
@@ -205,48 +205,48 @@ fn read_on<S: Source>(
     ensures end { result ≡ Ok Step.Stops → IsAtEnd (S.left source.new) × HasNoLf reader.new.held }
     ensures limit { reader.new.limit ≡ reader.old.limit }
 {
-    match next_said(alloc, number, reader, source) {
-        Ok(Some(said)) => keep(coming, said),
+    match next_site_line(alloc, number, reader, source) {
+        Ok(Some(parsed)) => keep(coming, parsed),
         Ok(None) => Ok(Step::Stops),
         Err(fault) => Err(fault),
     }
 }
 
 /// Keeps what a line says, and says how the group goes on.
-fn keep(coming: &mut Coming, said: Said) -> Result<Step, EnqueueFault>
-    ensures kept { IfOk result (KeepsSaid said coming.old.lines.items coming.new.lines.items) }
+fn keep(coming: &mut Coming, parsed: SiteLine) -> Result<Step, EnqueueFault>
+    ensures kept { IfOk result (KeepsSiteLine parsed coming.old.lines.items coming.new.lines.items) }
     ensures counted { coming.new.count ≡ next_number coming.old.count }
     ensures fault { IfErr result (λ fault. fault ≡ EnqueueFault.NoMemory) }
 {
     coming.count = coming.count.saturating_add(1);
-    match said {
-        Said::End(ready, _) => Ok(Step::EndsWith(ready)),
-        Said::Nothing => Ok(Step::GoesOn),
-        Said::Ready(_) | Said::NowReady(_) | Said::NotReady(_) => push_said(
+    match parsed {
+        SiteLine::End(ready, _) => Ok(Step::EndsWith(ready)),
+        SiteLine::Nothing => Ok(Step::GoesOn),
+        SiteLine::Ready(_) | SiteLine::NowReady(_) | SiteLine::NotReady(_) => push_line(
             &mut coming.lines,
-            said,
+            parsed,
         ),
     }
 }
 
 /// Keeps what a line says.
-fn push_said(lines: &mut Vec<Said>, said: Said) -> Result<Step, EnqueueFault>
-    ensures kept { IfOk result (λ step. (step ≡ Step.GoesOn) × (lines.new.items ≡ lines.old.items ++ said ∷ [])) }
+fn push_line(lines: &mut Vec<SiteLine>, parsed: SiteLine) -> Result<Step, EnqueueFault>
+    ensures kept { IfOk result (λ step. (step ≡ Step.GoesOn) × (lines.new.items ≡ lines.old.items ++ parsed ∷ [])) }
     ensures fault { IfErr result (λ fault. fault ≡ EnqueueFault.NoMemory) }
 {
-    match lines.push(said) {
+    match lines.push(parsed) {
         Ok(()) => Ok(Step::GoesOn),
         Err(_) => Err(EnqueueFault::NoMemory),
     }
 }
 
 /// What the next line says, which has this number; none at the end of the source.
-fn next_said<S: Source>(
+fn next_site_line<S: Source>(
     alloc: Global,
     number: u64,
     reader: &mut LineReader,
     source: &mut S,
-) -> Result<Option<Said>, EnqueueFault>
+) -> Result<Option<SiteLine>, EnqueueFault>
     ensures moves { (came : List ℕ) × Consumes (S.left source.old) (S.left source.new) came
         × SaysNext reader.old.limit (reader.old.held ++ came) reader.new.held number (S.failed source.old)
         (S.failed source.new) result }
@@ -254,7 +254,7 @@ fn next_said<S: Source>(
     ensures limit { reader.new.limit ≡ reader.old.limit }
 {
     match reader.next_line(source) {
-        Ok(true) => said_in(alloc, number, reader.line()),
+        Ok(true) => site_line_in(alloc, number, reader.line()),
         Ok(false) => Ok(None),
         Err(BytesFault::TooLong) => Err(EnqueueFault::BadLine(number)),
         Err(BytesFault::ReadFault) => Err(EnqueueFault::ReadFault),
@@ -263,13 +263,13 @@ fn next_said<S: Source>(
 }
 
 /// What the line of this number says.
-fn said_in(alloc: Global, number: u64, line: &[u8]) -> Result<Option<Said>, EnqueueFault>
-    ensures said { IfOk result (IsSaidAs line.now) }
+fn site_line_in(alloc: Global, number: u64, line: &[u8]) -> Result<Option<SiteLine>, EnqueueFault>
+    ensures parsed { IfOk result (IsSiteLine line.now) }
     ensures refused { IfErr result (λ fault. ((fault ≡ EnqueueFault.BadLine number)
-        × ((said : Said) → NumbersFit said → ¬ LineSays line.now said)) ⊎ (fault ≡ EnqueueFault.NoMemory)) }
+        × ((parsed : SiteLine) → NumbersFit parsed → ¬ LineSays line.now parsed)) ⊎ (fault ≡ EnqueueFault.NoMemory)) }
 {
     match read_line(alloc, line) {
-        Ok(Some(said)) => Ok(Some(said)),
+        Ok(Some(parsed)) => Ok(Some(parsed)),
         Ok(None) => Err(EnqueueFault::BadLine(number)),
         Err(_) => Err(EnqueueFault::NoMemory),
     }
@@ -283,11 +283,11 @@ fn taken(
     number: u64,
     ready: u64,
 ) -> Result<Vec<Item>, EnqueueFault>
-    ensures taken { IfOk result (λ items. let told = told_by coming.now.lines.items in
-        let now = ready_after handing.old.ready told ready in
-        Fits handing.old.ready told ready × (items.items ≡ fresh handing.old now) × (handing.new ≡ ready_first now)) }
+    ensures taken { IfOk result (λ items. let group = items_of_lines coming.now.lines.items in
+        let now = ready_after handing.old.ready group ready in
+        Fits handing.old.ready group ready × (items.items ≡ fresh handing.old now) × (handing.new ≡ ready_first now)) }
     ensures refused { IfErr result (λ fault. ((fault ≡ EnqueueFault.BadEnd number)
-        × ¬ Fits handing.old.ready (told_by coming.now.lines.items) ready) ⊎ (fault ≡ EnqueueFault.NoMemory)) }
+        × ¬ Fits handing.old.ready (items_of_lines coming.now.lines.items) ready) ⊎ (fault ≡ EnqueueFault.NoMemory)) }
 {
     match handing.take(alloc, coming.lines.as_slice(), ready) {
         Ok(Some(items)) => Ok(items),

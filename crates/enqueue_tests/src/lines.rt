@@ -1,6 +1,6 @@
 //! Lines that a site prints.
 
-use enqueue_lines::{Said, read_item, read_line};
+use enqueue_lines::{SiteLine, read_item, read_line};
 use state_core::Item;
 use std::test::Fail;
 
@@ -11,14 +11,17 @@ const ITEM: Item = Item {
 };
 
 /// Lines, and what they say.
-const LINES: &[(&str, Option<Said>)] = &[
-    ("ready 101,2", Some(Said::Ready(ITEM))),
-    ("+ready 101,2", Some(Said::NowReady(ITEM))),
-    ("-ready 101,2", Some(Said::NotReady(ITEM))),
-    ("end 18446744073709551615 0", Some(Said::End(u64::MAX, 0))),
-    ("out 101,2 require approval 1", Some(Said::Nothing)),
-    ("gone 101,2", Some(Said::Nothing)),
-    ("listening 8101", Some(Said::Nothing)),
+const LINES: &[(&str, Option<SiteLine>)] = &[
+    ("ready 101,2", Some(SiteLine::Ready(ITEM))),
+    ("+ready 101,2", Some(SiteLine::NowReady(ITEM))),
+    ("-ready 101,2", Some(SiteLine::NotReady(ITEM))),
+    (
+        "end 18446744073709551615 0",
+        Some(SiteLine::End(u64::MAX, 0)),
+    ),
+    ("out 101,2 require approval 1", Some(SiteLine::Nothing)),
+    ("gone 101,2", Some(SiteLine::Nothing)),
+    ("listening 8101", Some(SiteLine::Nothing)),
     ("", None),
     ("out", None),
     ("ready 101", None),
@@ -34,8 +37,8 @@ const LINES: &[(&str, Option<Said>)] = &[
 #[test]
 fn lines_are_read(rt: HostRuntime) -> Result<(), Fail> {
     for (line, wanted) in LINES {
-        let said = read_line(rt.alloc(), line.as_bytes())?;
-        assert_eq!(rt; said, *wanted, "{line}");
+        let parsed = read_line(rt.alloc(), line.as_bytes())?;
+        assert_eq!(rt; parsed, *wanted, "{line}");
     }
     let no_text = read_line(rt.alloc(), b"ready \xff1,2".as_slice())?;
     assert_eq!(rt; no_text, None);

@@ -1,8 +1,9 @@
 -- A feed goes on by one line more, and ends.
-use Rattle.std.proofs.Common.{◌≡◌, ◌+◌, ℕ, Bool, true, false, List, [], ◌∷◌, ◌++◌, Option, None, Result, Ok, Err, length, refl}
+use Rattle.std.proofs.Common.{◌≡◌, ◌+◌, ℕ, Bool, true, false, List, [], ◌∷◌, ◌++◌, Option, None, Result, Ok, Err}
+use Rattle.std.proofs.Common.{length, refl}
 use Rattle.std.proofs.Common.{sym, subst, arith}
 use Rattle.gerrit_events.specs.Projects.{Choice}
-use Rattle.gerrit_events.specs.Reading.{Told}
+use Rattle.gerrit_events.specs.Reading.{ParsedLine}
 use Rattle.gerrit_events.specs.Revisions.{Revision}
 use Rattle.event_feed.specs.Feed.{IsTurn, Standing, Stops, FeedTurn, Turns, Waits, ended_by, with_taker}
 use Rattle.event_feed.specs.Steps.{Steps}
@@ -11,11 +12,12 @@ use Rattle.event_feed.specs.declared.progress.Input.{Input}
 use Rattle.event_feed.specs.declared.progress.Progress.{Progress}
 
 module _ {Taker : Type 0} (rests : Taker → Result (Unit {0}) FeedFault → Taker → Type 0)
-    (takes : Taker → ℕ → Told → Result (Unit {0}) FeedFault → Taker → Type 0) where
-  pub turns_push : (choice : Choice) (limit first number : ℕ) (turns : List FeedTurn) (old mid new : Standing Taker) (waiting : Taker)
+    (takes : Taker → ℕ → ParsedLine → Result (Unit {0}) FeedFault → Taker → Type 0) where
+  pub turns_push : (choice : Choice) (limit first number : ℕ) (turns : List FeedTurn) (old mid new : Standing Taker)
+      (waiting : Taker)
       (turn : FeedTurn) → number ≡ first + length turns → Turns rests takes choice limit first old turns mid
       → Waits rests mid.source.held mid.taker waiting
-      → IsTurn takes choice limit number (with_taker mid waiting) new turn (Ok tt) → ended_by turn.told ≡ None
+      → IsTurn takes choice limit number (with_taker mid waiting) new turn (Ok tt) → ended_by turn.parsed ≡ None
       → Turns rests takes choice limit first old (turns ++ turn ∷ []) new
   turns_push choice limit first number [] old mid new waiting turn is before waits one unended =
       let at : number ≡ first = omega (arith, is) in (
@@ -33,11 +35,13 @@ module _ {Taker : Type 0} (rests : Taker → Result (Unit {0}) FeedFault → Tak
     before.2,
     before.3,
     before.4,
-    turns_push choice limit (first + 1) number turns before.1 mid new waiting turn (omega (arith, is)) before.5 waits one unended,
+    turns_push choice limit (first + 1) number turns before.1 mid new waiting turn
+        (omega (arith, is)) before.5 waits one unended,
   )
 
   -- turns go on from what is held, wherever that lies
-  pub turns_held : (choice : Choice) (limit first : ℕ) (old : Standing Taker) (turns : List FeedTurn) (left : Option (List ℕ))
+  pub turns_held : (choice : Choice) (limit first : ℕ) (old : Standing Taker) (turns : List FeedTurn)
+      (left : Option (List ℕ))
       (failed : ℕ) (held held' : List ℕ) (known : List Revision) (progress : Progress) (taker : Taker) → held ≡ held'
       → Turns rests takes choice limit first old turns
       (record { source = record { left = left; failed = failed; held = held }; known = known; progress = progress; taker = taker })
@@ -47,7 +51,8 @@ module _ {Taker : Type 0} (rests : Taker → Result (Unit {0}) FeedFault → Tak
       subst (λ h. Turns rests takes choice limit first old turns (record { source = record { left = left; failed = failed; held = h }; known = known; progress = progress; taker = taker })) same before
 
   -- a line was taken, and the feed goes on
-  pub step_on : (input : Input) (choice : Choice) (bound limit number : ℕ) (old new : Standing Taker) (more : Bool) → bound ≡ limit
+  pub step_on : (input : Input) (choice : Choice) (bound limit number : ℕ) (old new : Standing Taker) (more : Bool)
+      → bound ≡ limit
       → more ≡ true → Steps rests takes input choice bound number old new (Ok more)
       → Steps rests takes input choice limit number old new (Ok true)
   step_on input choice bound limit number old new true same is h =
@@ -55,7 +60,8 @@ module _ {Taker : Type 0} (rests : Taker → Result (Unit {0}) FeedFault → Tak
   step_on input choice bound limit number old new false same is h = cc
 
   -- the source is at its end
-  pub step_end : (input : Input) (choice : Choice) (bound limit number at : ℕ) (old new : Standing Taker) (more : Bool) → more ≡ false
+  pub step_end : (input : Input) (choice : Choice) (bound limit number at : ℕ) (old new : Standing Taker) (more : Bool)
+      → more ≡ false
       → at ≡ number → Steps rests takes input choice bound number old new (Ok more)
       → Stops rests takes input choice limit at old new (Ok tt)
   step_end input choice bound limit number at old new true is same h = cc
@@ -63,7 +69,8 @@ module _ {Taker : Type 0} (rests : Taker → Result (Unit {0}) FeedFault → Tak
       subst (λ n. Stops rests takes input choice limit n old new (Ok tt)) (sym same) h
 
   -- the feed ends early
-  pub step_off : (input : Input) (choice : Choice) (bound limit number at : ℕ) (old new : Standing Taker) (fault : FeedFault)
+  pub step_off : (input : Input) (choice : Choice) (bound limit number at : ℕ) (old new : Standing Taker)
+      (fault : FeedFault)
       → bound ≡ limit → at ≡ number → Steps rests takes input choice bound number old new (Err fault)
       → Stops rests takes input choice limit at old new (Err fault)
   step_off input choice bound limit number at old new fault same is h =

@@ -6,7 +6,7 @@ use Rattle.std.proofs.KnownBytes.{Consumes-trans}
 use Rattle.byte_ends.specs.Failures.{OneFailed}
 use Rattle.byte_ends.specs.Lines.{as_line, without_cr}
 use Rattle.gerrit_events.specs.Projects.{Choice}
-use Rattle.gerrit_events.specs.Reading.{Reads, Told}
+use Rattle.gerrit_events.specs.Reading.{Reads, ParsedLine}
 use Rattle.line_reader.specs.Lines.{BeginsWithLine, HasNoLf, IsTooLong}
 use Rattle.event_feed.proofs.LinesRead.{long_by}
 use Rattle.event_feed.specs.Ends.{Begin, HasCome, IsEndless, IsTextRead}
@@ -15,22 +15,24 @@ use Rattle.event_feed.specs.Progress.{after_part, end_of}
 use Rattle.event_feed.specs.Steps.{BreaksPassing, IsHanded, IsLineTaken, IsPassedLast, IsRefused, IsUnpassed, Moves}
 use Rattle.event_feed.specs.Steps.{PassesOver, with_more}
 use Rattle.event_feed.specs.declared.fault.FeedFault.{FeedFault}
-use Rattle.event_feed.specs.declared.fault.FeedFault.TheVariants.{Dropped, ReadFault, WriteFault, NoMemory, NoSite, Ended}
+use Rattle.event_feed.specs.declared.fault.FeedFault.TheVariants.{Dropped, ReadFault, WriteFault, NoMemory, NoSite}
+use Rattle.event_feed.specs.declared.fault.FeedFault.TheVariants.{Ended}
 use Rattle.event_feed.specs.declared.fault.FeedFault.TheVariants.{Incomplete, NoEnd, NoKey, NotAllowed, NotProved}
 use Rattle.event_feed.specs.declared.progress.Input.{Input}
 
-module _ {Taker : Type 0} (takes : Taker → ℕ → Told → Result (Unit {0}) FeedFault → Taker → Type 0) where
+module _ {Taker : Type 0} (takes : Taker → ℕ → ParsedLine → Result (Unit {0}) FeedFault → Taker → Type 0) where
   -- what a line tells was handed over: the feed goes on, or ends with it
-  handed_over : (input : Input) (choice : Choice) (limit number : ℕ) (old new : Standing Taker) (piece : List ℕ) (told : Told)
-      → ((result : Result (Unit {0}) FeedFault) → takes old.taker number told result new.taker
-      → new.progress ≡ after_part old.progress told.part
-      → IsTurn takes choice limit number old new (record { piece = piece; told = told }) result)
+  handed_over : (input : Input) (choice : Choice) (limit number : ℕ) (old new : Standing Taker) (piece : List ℕ)
+      (parsed : ParsedLine)
+      → ((result : Result (Unit {0}) FeedFault) → takes old.taker number parsed result new.taker
+      → new.progress ≡ after_part old.progress parsed.part
+      → IsTurn takes choice limit number old new (record { piece = piece; parsed = parsed }) result)
       → (result : Result Bool FeedFault)
-      → IsHanded takes number told old.progress new.progress old.taker new.taker result
+      → IsHanded takes number parsed old.progress new.progress old.taker new.taker result
       → Moves takes input choice limit number old new result
-  handed_over input choice limit number old new piece told turn (Ok true) h = (_, turn (Ok tt) h.0 h.2, h.1)
-  handed_over input choice limit number old new piece told turn (Ok false) h = absurd h
-  handed_over input choice limit number old new piece told turn (Err fault) h = elim h.0 [
+  handed_over input choice limit number old new piece parsed turn (Ok true) h = (_, turn (Ok tt) h.0 h.2, h.1)
+  handed_over input choice limit number old new piece parsed turn (Ok false) h = absurd h
+  handed_over input choice limit number old new piece parsed turn (Err fault) h = elim h.0 [
     | inl failed ↦ inr (inl (_, turn (Err fault) failed h.1))
     | inr ended ↦ inl (_, turn (Ok tt) ended.0 h.1, ended.1)
   ]
@@ -54,13 +56,14 @@ module _ {Taker : Type 0} (takes : Taker → ℕ → Told → Result (Unit {0}) 
       (consumed : Consumes old.source.left new.source.left came) (none_failed : new.source.failed ≡ old.source.failed)
       (begins : BeginsWithLine limit (old.source.held ++ came) piece new.source.held)
       (is : line ≡ without_cr piece) where
-    found_turn : (told : Told) → Reads old.known choice line told new.known → (result : Result (Unit {0}) FeedFault)
-        → takes old.taker number told result new.taker → new.progress ≡ after_part old.progress told.part
-        → IsTurn takes choice limit number old new (record { piece = piece; told = told }) result
-    found_turn told reads result taken progress = record {
+    found_turn : (parsed : ParsedLine) → Reads old.known choice line parsed new.known
+        → (result : Result (Unit {0}) FeedFault)
+        → takes old.taker number parsed result new.taker → new.progress ≡ after_part old.progress parsed.part
+        → IsTurn takes choice limit number old new (record { piece = piece; parsed = parsed }) result
+    found_turn parsed reads result taken progress = record {
       read = record { came = came; consumed = consumed; whole = begins.whole; none_failed = none_failed };
       plain = begins.plain;
-      found = inl (begins.short, subst (λ l. Reads old.known choice l told new.known) is reads);
+      found = inl (begins.short, subst (λ l. Reads old.known choice l parsed new.known) is reads);
       progress = progress;
       taken = taken;
     }
@@ -71,7 +74,8 @@ module _ {Taker : Type 0} (takes : Taker → ℕ → Told → Result (Unit {0}) 
     line_move result (inl h) =
         handed_over input choice limit number old new piece h.0 (found_turn h.0 h.1) result h.2
     line_move result (inr h) =
-        refused_memory input choice limit number old new came (record { consumed = consumed; none_failed = none_failed })
+        refused_memory input choice limit number old new came
+            (record { consumed = consumed; none_failed = none_failed })
         h.1 h.2 h.3 result h.0
 
   -- ---- a line that is too long
@@ -111,7 +115,7 @@ module _ {Taker : Type 0} (takes : Taker → ℕ → Told → Result (Unit {0}) 
     long_turn : (piece : List ℕ) → IsTextRead (as_line piece) mid new.source → HasNoLf piece
         → (result : Result (Unit {0}) FeedFault) → takes old.taker number no_event result new.taker
         → new.progress ≡ old.progress
-        → IsTurn takes choice limit number old new (record { piece = piece; told = no_event }) result
+        → IsTurn takes choice limit number old new (record { piece = piece; parsed = no_event }) result
     long_turn piece read plain result taken progress =
         let all : old.source.held ++ (came ++ read.came) ≡ as_line piece ++ new.source.held =
         sym (whole read.came) ∙ read.whole in

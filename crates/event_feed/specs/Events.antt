@@ -1,13 +1,14 @@
 -- What is written of a feed that has no site.
 use Rattle.std.specs.Prelude.{◌≡◌, ◌⊎◌, ℕ, List, Option, Result, Ok, Err, codes}
 use Rattle.gerrit_events.specs.Projects.{Choice}
-use Rattle.gerrit_events.specs.Reading.{Told}
+use Rattle.gerrit_events.specs.Reading.{ParsedLine}
 use Rattle.gerrit_events.specs.declared.finding.Finding.{Finding}
 use Rattle.event_feed.specs.Ends.{End, FeedIsCutShort, IsWritten}
 use Rattle.event_feed.specs.Feed.{Feeds, gerrit_line_limit}
 use Rattle.event_feed.specs.Texts.{refusal_lines, take_lines}
 use Rattle.event_feed.specs.declared.fault.FeedFault.{FeedFault}
-use Rattle.event_feed.specs.declared.fault.FeedFault.TheVariants.{Dropped, ReadFault, WriteFault, NoMemory, NoSite, Ended}
+use Rattle.event_feed.specs.declared.fault.FeedFault.TheVariants.{Dropped, ReadFault, WriteFault, NoMemory, NoSite}
+use Rattle.event_feed.specs.declared.fault.FeedFault.TheVariants.{Ended}
 use Rattle.event_feed.specs.declared.fault.FeedFault.TheVariants.{Incomplete, NoEnd, NoKey, NotAllowed, NotProved}
 use Rattle.event_feed.specs.declared.progress.Input.{Input}
 
@@ -49,8 +50,8 @@ module _ {Writer : Type 0} (shown : Writer → Outputs) where
   abbrev pub WritesNothing : Writer → Result (Unit {0}) FeedFault → Writer → Type 0
   WritesNothing old result new = (result ≡ Ok tt) × (new ≡ old)
 
-  abbrev pub WritesLine : Writer → ℕ → Told → Result (Unit {0}) FeedFault → Writer → Type 0
-  WritesLine old number told result new = IsLineWritten number told.findings (shown old) (shown new) result
+  abbrev pub WritesLine : Writer → ℕ → ParsedLine → Result (Unit {0}) FeedFault → Writer → Type 0
+  WritesLine old number parsed result new = IsLineWritten number parsed.findings (shown old) (shown new) result
 
   -- the greeting was cut short, and nothing was read
   pub record IsUngreeted (left : Option (List ℕ)) (unread : ℕ) (old : Writer) (left' : Option (List ℕ)) (unread' : ℕ)
@@ -60,7 +61,8 @@ module _ {Writer : Type 0} (shown : Writer → Outputs) where
     pub same : ((shown new).errors ≡ (shown old).errors) × (left' ≡ left) × (unread' ≡ unread)
 
   -- the greeting was written, and then what the lines bring
-  pub record IsGreeted (input : Input) (choice : Choice) (left : Option (List ℕ)) (unread : ℕ) (old : Writer) (left' : Option (List ℕ))
+  pub record IsGreeted (input : Input) (choice : Choice) (left : Option (List ℕ)) (unread : ℕ) (old : Writer)
+      (left' : Option (List ℕ))
       (unread' : ℕ) (new : Writer) (result : Result (Unit {0}) FeedFault) : Type 0 where
     pub greeted : Writer
     pub written : IsWritten hello_event (shown old).output (shown greeted).output
@@ -70,4 +72,5 @@ module _ {Writer : Type 0} (shown : Writer → Outputs) where
   abbrev pub RunsEvents : Input → Choice → Option (List ℕ) → ℕ → Writer → Option (List ℕ) → ℕ → Writer
       → Result (Unit {0}) FeedFault → Type 0
   RunsEvents input choice left unread old left' unread' new result =
-      IsUngreeted left unread old left' unread' new result ⊎ IsGreeted input choice left unread old left' unread' new result
+      IsUngreeted left unread old left' unread' new result
+          ⊎ IsGreeted input choice left unread old left' unread' new result

@@ -6,7 +6,7 @@ use Rattle.std.specs.Io.KnownBytes.{Consumes, IsAtEnd}
 use Rattle.byte_ends.specs.Failures.{OneFailed}
 use Rattle.byte_ends.specs.Lines.{as_line, without_cr}
 use Rattle.gerrit_events.specs.Projects.{Choice}
-use Rattle.gerrit_events.specs.Reading.{Reads, Told}
+use Rattle.gerrit_events.specs.Reading.{Reads, ParsedLine}
 use Rattle.gerrit_events.specs.Revisions.{Revision}
 use Rattle.gerrit_events.specs.declared.fault.EventFault.TheVariants.{BadEvent}
 use Rattle.gerrit_events.specs.declared.fault.EventKey.TheVariants.{Line}
@@ -18,7 +18,8 @@ use Rattle.event_feed.specs.Ends.{Begin, HasCome, IsEndless, IsTextRead}
 use Rattle.event_feed.specs.Progress.{after_part, end_of}
 use Rattle.event_feed.specs.Texts.{drops}
 use Rattle.event_feed.specs.declared.fault.FeedFault.{FeedFault}
-use Rattle.event_feed.specs.declared.fault.FeedFault.TheVariants.{Dropped, ReadFault, WriteFault, NoMemory, NoSite, Ended}
+use Rattle.event_feed.specs.declared.fault.FeedFault.TheVariants.{Dropped, ReadFault, WriteFault, NoMemory, NoSite}
+use Rattle.event_feed.specs.declared.fault.FeedFault.TheVariants.{Ended}
 use Rattle.event_feed.specs.declared.fault.FeedFault.TheVariants.{Incomplete, NoEnd, NoKey, NotAllowed, NotProved}
 use Rattle.event_feed.specs.declared.progress.Input.{Input}
 use Rattle.event_feed.specs.declared.progress.Progress.{Progress}
@@ -33,18 +34,18 @@ gerrit_line_limit = 67108864
 -- a line as it came, without its LF, and what it says
 pub record FeedTurn : Type 0 where
   pub piece : List ℕ
-  pub told : Told
+  pub parsed : ParsedLine
 
 -- the result for a line that is no event
-abbrev pub no_event : Told
+abbrev pub no_event : ParsedLine
 no_event = record { part = Nothing; findings = Refuses (BadEvent Line) ∷ [] }
 
 -- a line of at most so many bytes says what is read of it, where the changes of these projects are fed; a longer one
 -- is no event, and isn't read
 abbrev pub IsFoundTurn : Choice → ℕ → List Revision → FeedTurn → List Revision → Type 0
 IsFoundTurn choice limit known turn after =
-    ((length turn.piece ≤ limit) × Reads known choice (without_cr turn.piece) turn.told after)
-    ⊎ ((limit < length turn.piece) × (turn.told ≡ no_event) × (after ≡ known))
+    ((length turn.piece ≤ limit) × Reads known choice (without_cr turn.piece) turn.parsed after)
+    ⊎ ((limit < length turn.piece) × (turn.parsed ≡ no_event) × (after ≡ known))
 
 -- an answer that is an error is none
 abbrev pub fault_of : Part → Option FeedFault
@@ -55,8 +56,8 @@ fault_of (Stats more) = None
 fault_of Error = Some Incomplete
 
 -- the fault with which the feed ends after the line, if it does
-abbrev pub ended_by : Told → Option FeedFault
-ended_by told = if drops told.findings then Some Dropped else fault_of told.part
+abbrev pub ended_by : ParsedLine → Option FeedFault
+ended_by parsed = if drops parsed.findings then Some Dropped else fault_of parsed.part
 
 -- ---- between two lines
 
@@ -107,21 +108,22 @@ module _ {Taker : Type 0} (rests : Taker → Result (Unit {0}) FeedFault → Tak
     pub rested : rests old.taker (Err fault) new.taker
     pub same : (new.source ≡ old.source) × IsUnlearned old new
 
-module _ {Taker : Type 0} (takes : Taker → ℕ → Told → Result (Unit {0}) FeedFault → Taker → Type 0) where
+module _ {Taker : Type 0} (takes : Taker → ℕ → ParsedLine → Result (Unit {0}) FeedFault → Taker → Type 0) where
   -- the line of this number is read, and what it says is handed over
   pub record IsTurn (choice : Choice) (limit number : ℕ) (old new : Standing Taker) (turn : FeedTurn)
       (result : Result (Unit {0}) FeedFault) : Type 0 where
     pub read : IsTextRead (as_line turn.piece) old.source new.source
     pub plain : HasNoLf turn.piece
     pub found : IsFoundTurn choice limit old.known turn new.known
-    pub progress : new.progress ≡ after_part old.progress turn.told.part
-    pub taken : takes old.taker number turn.told result new.taker
+    pub progress : new.progress ≡ after_part old.progress turn.parsed.part
+    pub taken : takes old.taker number turn.parsed result new.taker
 
   -- the last result is handed over, and the feed ends with this result, unless the taker fails
-  abbrev pub HandsLast : ℕ → Told → Taker → Taker → Result (Unit {0}) FeedFault → Result (Unit {0}) FeedFault → Type 0
-  HandsLast number told old new ending result =
-      (takes old number told (Ok tt) new × (result ≡ ending))
-      ⊎ ((fault : FeedFault) × takes old number told (Err fault) new × (result ≡ Err fault))
+  abbrev pub HandsLast : ℕ → ParsedLine → Taker → Taker → Result (Unit {0}) FeedFault → Result (Unit {0}) FeedFault
+      → Type 0
+  HandsLast number parsed old new ending result =
+      (takes old number parsed (Ok tt) new × (result ≡ ending))
+      ⊎ ((fault : FeedFault) × takes old number parsed (Err fault) new × (result ≡ Err fault))
 
   -- bytes after the last LF, if there are any, are handed over as no event
   abbrev pub EndsWith : ℕ → List ℕ → Taker → Taker → Result (Unit {0}) FeedFault → Result (Unit {0}) FeedFault → Type 0
@@ -142,7 +144,7 @@ module _ {Taker : Type 0} (takes : Taker → ℕ → Told → Result (Unit {0}) 
   -- source, or as reading breaks off
   abbrev pub Fails : Input → Choice → ℕ → ℕ → Standing Taker → Standing Taker → FeedFault → Type 0
   Fails input choice limit number old new fault =
-      ((turn : FeedTurn) × IsTurn choice limit number old new turn (Ok tt) × (ended_by turn.told ≡ Some fault))
+      ((turn : FeedTurn) × IsTurn choice limit number old new turn (Ok tt) × (ended_by turn.parsed ≡ Some fault))
       ⊎ ((turn : FeedTurn) × IsTurn choice limit number old new turn (Err fault))
       ⊎ IsEnd input number old new (Err fault)
       ⊎ BreaksFeed limit old new fault
@@ -150,30 +152,33 @@ module _ {Taker : Type 0} (takes : Taker → ℕ → Told → Result (Unit {0}) 
 -- nothing is held of a source, known or begun
 abbrev pub feed_begun : {Taker : Type 0} → Option (List ℕ) → ℕ → Taker → Standing Taker
 feed_begun left failed taker =
-    record { source = record { left = left; failed = failed; held = [] }; known = []; progress = Unbegun; taker = taker }
+    record { source = record { left = left; failed = failed; held = [] }; known = []; progress = Unbegun;
+        taker = taker }
 
 -- ---- the whole feed
 
 module _ {Taker : Type 0} (rests : Taker → Result (Unit {0}) FeedFault → Taker → Type 0)
-    (takes : Taker → ℕ → Told → Result (Unit {0}) FeedFault → Taker → Type 0) where
+    (takes : Taker → ℕ → ParsedLine → Result (Unit {0}) FeedFault → Taker → Type 0) where
   -- lines from this number on, one after the other, of which none ends the feed
   abbrev pub Turns : Choice → ℕ → ℕ → Standing Taker → List FeedTurn → Standing Taker → Type 0
   Turns choice limit number old [] new = new ≡ old
   Turns choice limit number old (turn ∷ turns) new =
       (waiting : Taker) × (mid : Standing Taker) × Waits rests old.source.held old.taker waiting
-      × IsTurn takes choice limit number (with_taker old waiting) mid turn (Ok tt) × (ended_by turn.told ≡ None)
+      × IsTurn takes choice limit number (with_taker old waiting) mid turn (Ok tt) × (ended_by turn.parsed ≡ None)
       × Turns choice limit (number + 1) mid turns new
 
   abbrev pub Stops : Input → Choice → ℕ → ℕ → Standing Taker → Standing Taker → Result (Unit {0}) FeedFault → Type 0
   Stops input choice limit number old new (Ok done) =
-      (waiting : Taker) × Waits rests old.source.held old.taker waiting × IsEnd takes input number (with_taker old waiting) new (Ok tt)
+      (waiting : Taker) × Waits rests old.source.held old.taker waiting
+          × IsEnd takes input number (with_taker old waiting) new (Ok tt)
   Stops input choice limit number old new (Err fault) =
       IsUnrested rests old new fault
       ⊎ ((waiting : Taker) × Waits rests old.source.held old.taker waiting
       × Fails takes input choice limit number (with_taker old waiting) new fault)
 
   -- so many lines, and then an end; nothing is read where memory is refused at the beginning
-  pub record IsFed (input : Input) (choice : Choice) (limit most : ℕ) (old new : Standing Taker) (result : Result (Unit {0}) FeedFault)
+  pub record IsFed (input : Input) (choice : Choice) (limit most : ℕ) (old new : Standing Taker)
+      (result : Result (Unit {0}) FeedFault)
       : Type 0 where
     pub turns : List FeedTurn
     pub few : length turns ≤ most

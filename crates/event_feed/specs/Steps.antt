@@ -4,7 +4,7 @@ use Rattle.std.specs.Io.KnownBytes.{Consumes, IsAtEnd}
 use Rattle.byte_ends.specs.Failures.{OneFailed}
 use Rattle.byte_ends.specs.Lines.{as_line}
 use Rattle.gerrit_events.specs.Projects.{Choice}
-use Rattle.gerrit_events.specs.Reading.{Reads, Told}
+use Rattle.gerrit_events.specs.Reading.{Reads, ParsedLine}
 use Rattle.gerrit_events.specs.Revisions.{Revision}
 use Rattle.line_reader.specs.Lines.{HasNoLf}
 use Rattle.event_feed.specs.Ends.{Begin, HasCome, IsTextRead}
@@ -12,7 +12,8 @@ use Rattle.event_feed.specs.Feed.{EndsWith, Fails, HandsLast, IsEnd, IsTurn, IsU
 use Rattle.event_feed.specs.Feed.{Waits, ended_by, with_taker}
 use Rattle.event_feed.specs.Progress.{after_part}
 use Rattle.event_feed.specs.declared.fault.FeedFault.{FeedFault}
-use Rattle.event_feed.specs.declared.fault.FeedFault.TheVariants.{Dropped, ReadFault, WriteFault, NoMemory, NoSite, Ended}
+use Rattle.event_feed.specs.declared.fault.FeedFault.TheVariants.{Dropped, ReadFault, WriteFault, NoMemory, NoSite}
+use Rattle.event_feed.specs.declared.fault.FeedFault.TheVariants.{Ended}
 use Rattle.event_feed.specs.declared.fault.FeedFault.TheVariants.{Incomplete, NoEnd, NoKey, NotAllowed, NotProved}
 use Rattle.event_feed.specs.declared.progress.Input.{Input}
 use Rattle.event_feed.specs.declared.progress.Progress.{Progress}
@@ -47,21 +48,21 @@ module _ {Taker : Type 0} (rests : Taker → Result (Unit {0}) FeedFault → Tak
   Rests held old new (Ok done) = Waits rests held old new
   Rests held old new (Err fault) = HasNoLf held × rests old (Err fault) new
 
-module _ {Taker : Type 0} (takes : Taker → ℕ → Told → Result (Unit {0}) FeedFault → Taker → Type 0) where
+module _ {Taker : Type 0} (takes : Taker → ℕ → ParsedLine → Result (Unit {0}) FeedFault → Taker → Type 0) where
   -- what a line says is handed over, and may end the feed
-  abbrev pub IsHanded : ℕ → Told → Progress → Progress → Taker → Taker → Result Bool FeedFault → Type 0
-  IsHanded number told before after old new (Ok true) =
-      takes old number told (Ok tt) new × (ended_by told ≡ None) × (after ≡ after_part before told.part)
-  IsHanded number told before after old new (Ok false) = ⊥
-  IsHanded number told before after old new (Err fault) =
-      (takes old number told (Err fault) new ⊎ (takes old number told (Ok tt) new × (ended_by told ≡ Some fault)))
-      × (after ≡ after_part before told.part)
+  abbrev pub IsHanded : ℕ → ParsedLine → Progress → Progress → Taker → Taker → Result Bool FeedFault → Type 0
+  IsHanded number parsed before after old new (Ok true) =
+      takes old number parsed (Ok tt) new × (ended_by parsed ≡ None) × (after ≡ after_part before parsed.part)
+  IsHanded number parsed before after old new (Ok false) = ⊥
+  IsHanded number parsed before after old new (Err fault) =
+      (takes old number parsed (Err fault) new ⊎ (takes old number parsed (Ok tt) new × (ended_by parsed ≡ Some fault)))
+      × (after ≡ after_part before parsed.part)
 
   -- a line is read, and what it says is handed over; or memory is refused for reading it
   abbrev pub IsLineTaken : Choice → ℕ → List ℕ → List Revision → List Revision → Progress → Progress → Taker → Taker
       → Result Bool FeedFault → Type 0
   IsLineTaken choice number line known learned before after old new result =
-      ((told : Told) × Reads known choice line told learned × IsHanded number told before after old new result)
+      ((parsed : ParsedLine) × Reads known choice line parsed learned × IsHanded number parsed before after old new result)
       ⊎ ((result ≡ Err NoMemory) × (learned ≡ known) × (after ≡ before) × (new ≡ old))
 
   -- it is handed over that there is no event; or memory is refused for that
@@ -124,12 +125,12 @@ module _ {Taker : Type 0} (takes : Taker → ℕ → Told → Result (Unit {0}) 
   -- what a call answers that takes the next line once the taker has rested: whether there was one
   abbrev pub Moves : Input → Choice → ℕ → ℕ → Standing Taker → Standing Taker → Result Bool FeedFault → Type 0
   Moves input choice limit number old new (Ok true) =
-      (turn : FeedTurn) × IsTurn takes choice limit number old new turn (Ok tt) × (ended_by turn.told ≡ None)
+      (turn : FeedTurn) × IsTurn takes choice limit number old new turn (Ok tt) × (ended_by turn.parsed ≡ None)
   Moves input choice limit number old new (Ok false) = IsEnd takes input number old new (Ok tt)
   Moves input choice limit number old new (Err fault) = Fails takes input choice limit number old new fault
 
 module _ {Taker : Type 0} (rests : Taker → Result (Unit {0}) FeedFault → Taker → Type 0)
-    (takes : Taker → ℕ → Told → Result (Unit {0}) FeedFault → Taker → Type 0) where
+    (takes : Taker → ℕ → ParsedLine → Result (Unit {0}) FeedFault → Taker → Type 0) where
   -- what a call answers that takes the next line
   abbrev pub Steps : Input → Choice → ℕ → ℕ → Standing Taker → Standing Taker → Result Bool FeedFault → Type 0
   Steps input choice limit number old new (Ok true) =

@@ -9,7 +9,7 @@ use super::progress::Input;
 use super::taker::Taker;
 use super::texts::{refusal_lines, take_lines};
 use byte_ends::{Drain, Source, write_all};
-use gerrit_events::{Projects, Told};
+use gerrit_events::{ParsedLine, Projects};
 use std::alloc::Global;
 
 /// A taker that writes the bodies of each line as the lines of a session to an output, and the losses to standard
@@ -27,7 +27,7 @@ impl<D: Drain, E: Drain> Taker for EventWriter<D, E> {
 
     ghost rests = { λ old result new. (result ≡ Ok tt) × (new ≡ old) };
 
-    ghost takes = { λ old number told result new. IsLineWritten number told.findings
+    ghost takes = { λ old number parsed result new. IsLineWritten number parsed.findings
         (record {
           output = record { taken = D.taken old.output; failed = D.failed old.output };
           errors = record { taken = E.taken old.errors; failed = E.failed old.errors };
@@ -42,8 +42,8 @@ impl<D: Drain, E: Drain> Taker for EventWriter<D, E> {
         Ok(())
     }
 
-    fn take(&mut self, number: u64, told: Told) -> Result<(), FeedFault> {
-        let findings = told.findings.as_slice();
+    fn take(&mut self, number: u64, parsed: ParsedLine) -> Result<(), FeedFault> {
+        let findings = parsed.findings.as_slice();
         let Ok(brought) = take_lines(self.alloc, findings) else {
             return Err(FeedFault::NoMemory);
         };

@@ -6,7 +6,7 @@ ghost use Rattle.event_feed.specs.Progress.{end_of};
 ghost use Rattle.event_feed.specs.Steps.{Moves, PassesOver, Rests, Steps, with_more};
 
 use super::fault::FeedFault;
-use super::hand::{Learned, end_lines, refuse_last, refuse_line, take_line};
+use super::handing_over::{Learned, end_lines, refuse_last, refuse_line, take_line};
 use super::progress::{Input, Progress};
 use super::taker::Taker;
 use byte_ends::{BytesFault, Source};

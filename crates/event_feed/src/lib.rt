@@ -32,7 +32,7 @@
 mod events;
 mod fault;
 mod feed;
-mod hand;
+mod handing_over;
 mod progress;
 mod taker;
 mod texts;

@@ -2,10 +2,10 @@
 
 ghost use Rattle.std.specs.Prelude.{ℕ, Result};
 ghost use Rattle.event_feed.specs.declared.fault.FeedFault.{FeedFault as Fault};
-ghost use Rattle.gerrit_events.specs.Reading.{Told as Line};
+ghost use Rattle.gerrit_events.specs.Reading.{ParsedLine as Line};
 
 use super::fault::FeedFault;
-use gerrit_events::Told;
+use gerrit_events::ParsedLine;
 
 /// Takes the lines that a feed reads. Each implementation gives two relations, between its state before a call, the
 /// arguments, the result, and its state after.
@@ -21,6 +21,6 @@ pub trait Taker {
         ensures { rests self.old result self.new };
 
     /// Takes the parsed line with this number.
-    fn take(&mut self, number: u64, told: Told) -> Result<(), FeedFault>
-        ensures { takes self.old number told result self.new };
+    fn take(&mut self, number: u64, parsed: ParsedLine) -> Result<(), FeedFault>
+        ensures { takes self.old number parsed result self.new };
 }

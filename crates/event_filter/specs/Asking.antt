@@ -11,7 +11,7 @@ use Rattle.change_core.specs.Views.{IsGreatestKnown, parent_of, status_of}
 use Rattle.change_core.specs.declared.life.Status.TheVariants.{New, Abandoned}
 use Rattle.state_core.specs.Known.{IsKnown, IsMerged}
 use Rattle.state_core.specs.State.{State}
-use Rattle.gerrit_events.specs.Reading.{Told}
+use Rattle.gerrit_events.specs.Reading.{ParsedLine}
 use Rattle.gerrit_events.specs.declared.finding.Finding.{Finding}
 use Rattle.gerrit_events.specs.declared.finding.Finding.TheVariants.{Brings, Shows, Lists, Refuses}
 use Rattle.gerrit_events.specs.declared.part.Part.{Part}
@@ -65,7 +65,8 @@ IsOutdated state deed number = ⊥
 -- what is new is asked for itself, for what it lacks and for what it may outdate
 abbrev pub IsAskedByNews : State → Option (List (List ℕ)) → Deed → ℕ → Type 0
 IsAskedByNews state bases deed number =
-    IsNew state deed × ((number ≡ change_of deed) ⊎ (LacksNeeded state bases deed number ⊎ IsOutdated state deed number))
+    IsNew state deed
+        × ((number ≡ change_of deed) ⊎ (LacksNeeded state bases deed number ⊎ IsOutdated state deed number))
 
 -- no vote is shown, where the record has one: whether it was taken back only Gerrit can say
 abbrev pub IsDoubtful : State → Deed → Type 0
@@ -105,9 +106,9 @@ AskFor state bases part is_open findings number =
     (finding : Finding) × Contains findings finding × IsAskedBy state bases part is_open finding number
 
 -- what is asked for when a line is met; of a row that doesn't say that its change is open, nothing
-abbrev pub AsksFor : State → Option (List (List ℕ)) → Told → ℕ → Type 0
-AsksFor state bases told number =
-    AskFor state bases told.part (list_any says_open told.findings) told.findings number
+abbrev pub AsksFor : State → Option (List (List ℕ)) → ParsedLine → ℕ → Type 0
+AsksFor state bases parsed number =
+    AskFor state bases parsed.part (list_any says_open parsed.findings) parsed.findings number
 
 -- a set gains just these numbers; for private clauses
 abbrev pub Gains : (ℕ → Type 0) → BTreeSet ℕ → BTreeSet ℕ → Type 0

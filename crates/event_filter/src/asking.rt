@@ -17,7 +17,7 @@ ghost use Rattle.change_core.specs.declared.life.Status.TheVariants.{Abandoned, 
 use super::recorded::is_recorded;
 use change_core::{ChangeState, Status};
 use footer_text::{Bases, depends};
-use gerrit_events::{Finding, Part, Told};
+use gerrit_events::{Finding, ParsedLine, Part};
 use lattice_core::NoMemory;
 use review_ops::{Body, Draft};
 use state_core::State;
@@ -36,15 +36,23 @@ pub fn asked(
     alloc: Global,
     state: &State,
     bases: Option<&Bases>,
-    told: &Told,
+    parsed: &ParsedLine,
 ) -> Result<BTreeSet<u32>, NoMemory>
     ensures { IfOk result (λ asks. (number : ℕ) → (contains nat_cmp asks number ≡ true)
-        ↔ AsksFor state.now (option_map (λ bases. bases.now) bases.entry) told.now number) }
+        ↔ AsksFor state.now (option_map (λ bases. bases.now) bases.entry) parsed.now number) }
 {
     let mut asks = BTreeSet::new(alloc);
-    let is_open = says_open(told.findings.as_slice());
-    for finding in told.findings.as_slice() {
-        add_asked(alloc, state, bases, told.part, is_open, finding, &mut asks)?;
+    let is_open = says_open(parsed.findings.as_slice());
+    for finding in parsed.findings.as_slice() {
+        add_asked(
+            alloc,
+            state,
+            bases,
+            parsed.part,
+            is_open,
+            finding,
+            &mut asks,
+        )?;
     }
     Ok(asks)
 }

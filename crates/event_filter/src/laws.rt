@@ -8,7 +8,7 @@ ghost use Rattle.footer_text.specs.Footers.{MessageNeeds};
 ghost use Rattle.gerrit_events.specs.declared.finding.Finding.{Finding};
 ghost use Rattle.gerrit_events.specs.Messages.{has_lost_footers, kept_message};
 ghost use Rattle.gerrit_events.specs.Projects.{Choice};
-ghost use Rattle.gerrit_events.specs.Reading.{IsLineObject, Reads, Told};
+ghost use Rattle.gerrit_events.specs.Reading.{IsLineObject, Reads, ParsedLine};
 ghost use Rattle.gerrit_events.specs.Revisions.{Revision};
 ghost use Rattle.serde_json.specs.Data.{Members, object};
 ghost use Rattle.event_filter.specs.Rows.{IsFedRow, SaysRow};
@@ -51,10 +51,10 @@ pub fn what_is_nothing_new_brings_nothing()
 /// current patch set, and that nobody else has a score on it. This holds whatever was met before these findings,
 /// such as the votes that `against_first` puts first.
 pub fn what_a_row_says_is_what_the_record_says()
-    ensures { (known after : List Revision) → (choice : Choice) → (text : List ℕ) → (told : Told)
-        → Reads known choice text told after → (members : Members) → IsLineObject text members
+    ensures { (known after : List Revision) → (choice : Choice) → (text : List ℕ) → (parsed : ParsedLine)
+        → Reads known choice text parsed after → (members : Members) → IsLineObject text members
         → (change set : ℕ) → IsFedRow choice (object members) change set
-        → (before : List Finding) → (state new : State) → AreMet state (before ++ told.findings) new
+        → (before : List Finding) → (state new : State) → AreMet state (before ++ parsed.findings) new
         → SaysRow known (object members) change set new }
 {}
 

@@ -11,7 +11,7 @@ use Rattle.event_feed.specs.declared.progress.Input.TheVariants.{Answer}
 use Rattle.event_filter.specs.Bringing.{AreBodies}
 use Rattle.event_filter.specs.Vanishing.{abandons}
 use Rattle.gerrit_events.specs.Projects.{Choice}
-use Rattle.gerrit_events.specs.Reading.{Told}
+use Rattle.gerrit_events.specs.Reading.{ParsedLine}
 use Rattle.gerrit_events.specs.declared.part.Part.{Part}
 use Rattle.gerrit_events.specs.declared.part.Part.TheVariants.{Nothing, Event, Row, Stats, Error}
 use Rattle.review_ops.specs.Deed.{Deed, change_of}
@@ -68,10 +68,10 @@ module _ {Whole Feed Site : Type 0} (feed : Whole → Feed) (noted : Whole → N
   ListingRests old result new =
       LearnsNews answers (shown (feed old)) (shown (feed new)) result × (noted new ≡ noted old)
 
-  abbrev pub ListingTakes : Whole → ℕ → Told → Result (Unit {0}) FeedFault → Whole → Type 0
-  ListingTakes old number told result new =
-      (Notes number told.part (noted old) (noted new)
-      × TakesLine replies number told (shown (feed old)) (shown (feed new)) result)
+  abbrev pub ListingTakes : Whole → ℕ → ParsedLine → Result (Unit {0}) FeedFault → Whole → Type 0
+  ListingTakes old number parsed result new =
+      (Notes number parsed.part (noted old) (noted new)
+      × TakesLine replies number parsed (shown (feed old)) (shown (feed new)) result)
       ⊎ ((result ≡ Err NoMemory) × (feed new ≡ feed old))
 
   -- how it ends, once the answer was fed so
@@ -81,7 +81,8 @@ module _ {Whole Feed Site : Type 0} (feed : Whole → Feed) (noted : Whole → N
   EndsListing (Err fault) old new result = (result ≡ Err fault) × (new ≡ old)
 
   -- the answer is fed to the site, and then what it doesn't list is abandoned
-  pub record CompletesSite (choice : Choice) (left : Option (List ℕ)) (unread : ℕ) (old : Whole) (left' : Option (List ℕ)) (unread' : ℕ)
+  pub record CompletesSite (choice : Choice) (left : Option (List ℕ)) (unread : ℕ) (old : Whole)
+      (left' : Option (List ℕ)) (unread' : ℕ)
       (new : Whole) (result : Result (Unit {0}) FeedFault) : Type 0 where
     pub between : Whole
     pub answered : Result (Unit {0}) FeedFault

@@ -12,7 +12,7 @@ use Rattle.event_feed.specs.declared.progress.Input.{Input}
 use Rattle.event_filter.specs.Against.{against_first}
 use Rattle.event_filter.specs.Asking.{AsksFor}
 use Rattle.gerrit_events.specs.Projects.{Choice}
-use Rattle.gerrit_events.specs.Reading.{Told}
+use Rattle.gerrit_events.specs.Reading.{ParsedLine}
 use Rattle.review_ops.specs.Deed.{Deed}
 use Rattle.review_ops.specs.Timestamp.{Timestamp}
 use Rattle.state_core.specs.State.{State}
@@ -41,8 +41,9 @@ abbrev pub ask_lines : List ℕ → List ℕ
 ask_lines changes = flat_map ask_line changes
 
 -- just these changes have to be asked for, where the line is to be met by the record
-abbrev pub AreAsked : Option (List (List ℕ)) → State → Told → BTreeSet ℕ → Type 0
-AreAsked bases state told asks = (change : ℕ) → (contains nat_cmp asks change ≡ true) ↔ AsksFor state bases told change
+abbrev pub AreAsked : Option (List (List ℕ)) → State → ParsedLine → BTreeSet ℕ → Type 0
+AreAsked bases state parsed asks =
+    (change : ℕ) → (contains nat_cmp asks change ≡ true) ↔ AsksFor state bases parsed change
 
 -- what came to the site is taken into the state
 abbrev pub LearnsNews : {Site : Type 0} → (Site → Result SiteRound IntakeFault → Site → Type 0) → Seen Site → Seen Site
@@ -57,17 +58,17 @@ LearnsNews answers old new (Err fault) =
 module _ {Site : Type 0} (replies : Site → Deed → Result Timestamp IntakeFault → Site → Type 0) where
   -- the `ask` lines of these changes are written, and then the findings are processed, votes below 0 first; if the
   -- `ask` lines are cut short, none is processed
-  abbrev pub AsksAndMeets : ℕ → BTreeSet ℕ → Told → Seen Site → Seen Site → Result (Unit {0}) FeedFault → Type 0
-  AsksAndMeets number asks told old new result =
+  abbrev pub AsksAndMeets : ℕ → BTreeSet ℕ → ParsedLine → Seen Site → Seen Site → Result (Unit {0}) FeedFault → Type 0
+  AsksAndMeets number asks parsed old new result =
       (IsWritten (ask_lines asks.keys) old.output new.output
-      × InTurn (Meets replies number) (against_first told.findings) old.place new.place result)
+      × InTurn (Meets replies number) (against_first parsed.findings) old.place new.place result)
       ⊎ (FeedIsCutShort (ask_lines asks.keys) old.output new.output × (result ≡ Err WriteFault) × (new.place ≡ old.place))
 
   -- the line with this number is processed; nothing is done if memory is refused for the changes to ask for, or for the
   -- order of the findings
-  abbrev pub TakesLine : ℕ → Told → Seen Site → Seen Site → Result (Unit {0}) FeedFault → Type 0
-  TakesLine number told old new result =
-      (((asks : BTreeSet ℕ) × AreAsked old.bases old.place.state told asks × AsksAndMeets number asks told old new result)
+  abbrev pub TakesLine : ℕ → ParsedLine → Seen Site → Seen Site → Result (Unit {0}) FeedFault → Type 0
+  TakesLine number parsed old new result =
+      (((asks : BTreeSet ℕ) × AreAsked old.bases old.place.state parsed asks × AsksAndMeets number asks parsed old new result)
       ⊎ ((result ≡ Err NoMemory) × (new.place ≡ old.place) × (new.output ≡ old.output)))
       × (new.bases ≡ old.bases)
 
@@ -79,8 +80,8 @@ module _ {Feed Site : Type 0} (shown : Feed → Seen Site)
   abbrev pub FeedRests : Feed → Result (Unit {0}) FeedFault → Feed → Type 0
   FeedRests old result new = LearnsNews answers (shown old) (shown new) result
 
-  abbrev pub FeedTakes : Feed → ℕ → Told → Result (Unit {0}) FeedFault → Feed → Type 0
-  FeedTakes old number told result new = TakesLine replies number told (shown old) (shown new) result
+  abbrev pub FeedTakes : Feed → ℕ → ParsedLine → Result (Unit {0}) FeedFault → Feed → Type 0
+  FeedTakes old number parsed result new = TakesLine replies number parsed (shown old) (shown new) result
 
   -- the lines of the source are fed to the site, one after the other
   abbrev pub FeedsSite : Input → Choice → Option (List ℕ) → ℕ → Feed → Option (List ℕ) → ℕ → Feed

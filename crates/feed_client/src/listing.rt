@@ -13,7 +13,7 @@ use super::site_feed::{SiteFeed, add_ask};
 use byte_ends::{Drain, Source};
 use event_feed::{FeedFault, Input, Taker, feed_lines, send};
 use event_filter::vanished;
-use gerrit_events::{Projects, Told};
+use gerrit_events::{ParsedLine, Projects};
 use lattice_core::NoMemory;
 use review_ops::Body;
 use std::alloc::Global;
@@ -32,17 +32,17 @@ impl<T: Taker> Taker for Listing<T> {
 
     ghost rests = { λ old result new. T.rests old.feed result new.feed × (new.noted ≡ old.noted) };
 
-    ghost takes = { λ old number told result new.
-        (Notes number told.part old.noted new.noted × T.takes old.feed number told result new.feed)
+    ghost takes = { λ old number parsed result new.
+        (Notes number parsed.part old.noted new.noted × T.takes old.feed number parsed result new.feed)
         ⊎ ((result ≡ Err NoMemory) × (new.feed ≡ old.feed)) };
 
     fn rest(&mut self) -> Result<(), FeedFault> {
         self.feed.rest()
     }
 
-    fn take(&mut self, number: u64, told: Told) -> Result<(), FeedFault> {
-        match self.noted.note(number, told.part) {
-            Ok(()) => self.feed.take(number, told),
+    fn take(&mut self, number: u64, parsed: ParsedLine) -> Result<(), FeedFault> {
+        match self.noted.note(number, parsed.part) {
+            Ok(()) => self.feed.take(number, parsed),
             Err(_) => Err(FeedFault::NoMemory),
         }
     }

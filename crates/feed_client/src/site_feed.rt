@@ -11,7 +11,7 @@ use byte_ends::{Drain, Source};
 use event_feed::{FeedFault, Input, Taker, feed_lines, send};
 use event_filter::{against_first, asked};
 use footer_text::Bases;
-use gerrit_events::{Projects, Told};
+use gerrit_events::{ParsedLine, Projects};
 use lattice_core::NoMemory;
 use state_core::State;
 use std::alloc::Global;
@@ -39,7 +39,7 @@ impl<T: Intake, O: Drain, E: Drain> Taker for SiteFeed<T, O, E> {
         (O.failed new.output))
         result };
 
-    ghost takes = { λ old number told result new. TakesLine T.replies number told
+    ghost takes = { λ old number parsed result new. TakesLine T.replies number parsed
         (seen_at old.bases (place_at old.site old.state (E.taken old.errors) (E.failed old.errors)) (O.taken old.output)
         (O.failed old.output))
         (seen_at new.bases (place_at new.site new.state (E.taken new.errors) (E.failed new.errors)) (O.taken new.output)
@@ -53,14 +53,14 @@ impl<T: Intake, O: Drain, E: Drain> Taker for SiteFeed<T, O, E> {
         }
     }
 
-    fn take(&mut self, number: u64, told: Told) -> Result<(), FeedFault> {
-        let Ok(asked) = asked(self.alloc, &self.state, self.bases.as_ref(), &told) else {
+    fn take(&mut self, number: u64, parsed: ParsedLine) -> Result<(), FeedFault> {
+        let Ok(asked) = asked(self.alloc, &self.state, self.bases.as_ref(), &parsed) else {
             return Err(FeedFault::NoMemory);
         };
         let Ok(text) = ask_lines(self.alloc, &asked) else {
             return Err(FeedFault::NoMemory);
         };
-        let Ok(findings) = against_first(self.alloc, told.findings) else {
+        let Ok(findings) = against_first(self.alloc, parsed.findings) else {
             return Err(FeedFault::NoMemory);
         };
         match send(&mut self.output, text.as_str()) {

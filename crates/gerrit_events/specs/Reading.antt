@@ -64,24 +64,24 @@ known_after known choice (Some kind) line =
     if feeds choice kind line then patches_after known (brought_by known kind line) else known
 
 -- the part of Gerrit's output that a line is, and its findings
-pub record Told : Type 0 where
+pub record ParsedLine : Type 0 where
   pub part : Part
   pub findings : List Finding
 
 -- the line is an object, its claims are settled so, and this is known then
-pub record IsLineRead (known : List Revision) (choice : Choice) (text : List ℕ) (told : Told) (after : List Revision) :
+pub record IsLineRead (known : List Revision) (choice : Choice) (text : List ℕ) (parsed : ParsedLine) (after : List Revision) :
     Type 0 where
   pub members : Members
   pub is_object : IsLineObject text members
-  pub settled : ClaimsAreSettled (claims_of known choice (line_kind (object members)) (object members)) told.findings
+  pub settled : ClaimsAreSettled (claims_of known choice (line_kind (object members)) (object members)) parsed.findings
   pub learned : after ≡ known_after known choice (line_kind (object members)) (object members)
-  pub part : told.part ≡ line_part (line_kind (object members)) (object members)
+  pub part : parsed.part ≡ line_part (line_kind (object members)) (object members)
 
 -- the line is no object
-pub record IsNoEvent (known : List Revision) (text : List ℕ) (told : Told) (after : List Revision) : Type 0 where
+pub record IsNoEvent (known : List Revision) (text : List ℕ) (parsed : ParsedLine) (after : List Revision) : Type 0 where
   pub none : (members : Members) → ¬ IsLineObject text members
-  pub refused : told ≡ record { part = Nothing; findings = Refuses (BadEvent Line) ∷ [] }
+  pub refused : parsed ≡ record { part = Nothing; findings = Refuses (BadEvent Line) ∷ [] }
   pub same : after ≡ known
 
-abbrev pub Reads : List Revision → Choice → List ℕ → Told → List Revision → Type 0
-Reads known choice text told after = IsLineRead known choice text told after ⊎ IsNoEvent known text told after
+abbrev pub Reads : List Revision → Choice → List ℕ → ParsedLine → List Revision → Type 0
+Reads known choice text parsed after = IsLineRead known choice text parsed after ⊎ IsNoEvent known text parsed after

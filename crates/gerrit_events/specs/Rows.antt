@@ -51,7 +51,7 @@ abbrev pub RowSays : Data → Line → Type 0
 RowSays value line = SaysBy (line_kind value) value line
 
 -- the bytes are the text of an object that says so; or they are that of none, and the line says nothing
-abbrev pub Tells : List ℕ → Line → Type 0
-Tells text line =
+abbrev pub SaysQueryLine : List ℕ → Line → Type 0
+SaysQueryLine text line =
     ((members : Members) × IsLineObject text members × RowSays (object members) line)
     ⊎ (((members : Members) → ¬ IsLineObject text members) × (line ≡ Other))

@@ -27,8 +27,8 @@
 //! ```
 //! let line = br#"{"type":"change-abandoned","change":{"number":101}}"#;
 //! let mut known = Known::new(alloc);
-//! let told = read_event(alloc, &mut known, &Projects::all(), line)?;
-//! assert_eq!(rt; told.findings.len(), 1);
+//! let parsed = read_event(alloc, &mut known, &Projects::all(), line)?;
+//! assert_eq!(rt; parsed.findings.len(), 1);
 //! ```
 #![tactic(auto)]
 
@@ -43,12 +43,12 @@ mod listing;
 mod mark;
 mod message;
 mod number;
+mod parsed_line;
 mod part;
 mod patch;
 mod projects;
 mod read;
 mod row;
-mod told;
 mod tree;
 mod value;
 
@@ -56,8 +56,8 @@ pub use fault::{EventFault, EventKey};
 pub use finding::Finding;
 pub use known::Known;
 pub use listing::{Ballot, Listing};
+pub use parsed_line::ParsedLine;
 pub use part::Part;
 pub use projects::Projects;
 pub use read::read_event;
 pub use row::{ChangePlace, QueryLine, read_query_line};
-pub use told::Told;

@@ -19,10 +19,10 @@ use super::finding::Finding;
 use super::kind::Kind;
 use super::known::{Known, Revisions};
 use super::line::Line;
+use super::parsed_line::ParsedLine;
 use super::part::Part;
 use super::patch::Patch;
 use super::projects::Projects;
-use super::told::Told;
 use super::tree::{is_object, value_of};
 use json::{Scratch, Value};
 use lattice_core::NoMemory;
@@ -40,8 +40,8 @@ pub fn read_event(
     known: &mut Known,
     projects: &Projects,
     line: &[u8],
-) -> Result<Told, NoMemory>
-    ensures read { IfOk result (λ told. Reads known.old projects.now line.now told known.new) }
+) -> Result<ParsedLine, NoMemory>
+    ensures read { IfOk result (λ parsed. Reads known.old projects.now line.now parsed known.new) }
     ensures kept { OnErr result (known.new ≡ known.old) }
 {
     match str::from_utf8(line) {
@@ -61,9 +61,9 @@ fn read_text(
     room: &mut Scratch,
     projects: &Projects,
     text: &str,
-) -> Result<Told, NoMemory>
+) -> Result<ParsedLine, NoMemory>
     requires { IsUtf8 text.now }
-    ensures read { IfOk result (λ told. Reads known.old projects.now text.now told known.new) }
+    ensures read { IfOk result (λ parsed. Reads known.old projects.now text.now parsed known.new) }
     ensures kept { OnErr result (known.new ≡ known.old) }
 {
     let Some(value) = object_of(alloc, room, text)? else {
@@ -105,12 +105,12 @@ pub fn object_of<'a>(
 }
 
 /// The line is refused.
-fn refused(alloc: Global, key: EventKey) -> Result<Told, NoMemory>
-    ensures { IfOk result (λ told. told ≡ record { part = Nothing; findings = Refuses (BadEvent key) ∷ [] }) }
+fn refused(alloc: Global, key: EventKey) -> Result<ParsedLine, NoMemory>
+    ensures { IfOk result (λ parsed. parsed ≡ record { part = Nothing; findings = Refuses (BadEvent key) ∷ [] }) }
 {
     let mut findings = Vec::new(alloc);
     findings.push(Finding::Refuses(EventFault::BadEvent(key)))?;
-    Ok(Told {
+    Ok(ParsedLine {
         part: Part::Nothing,
         findings,
     })
@@ -122,22 +122,22 @@ fn read_kind(
     known: &mut Revisions,
     projects: &Projects,
     line: Line<'_, '_>,
-) -> Result<Told, NoMemory>
-    ensures part { IfOk result (λ told. told.part ≡ part_by line.entry.kind (data_in line.entry.value.now)) }
-    ensures settled { IfOk result (λ told. ClaimsAreSettled
-        (claims_of known.old projects.now (Some line.entry.kind) (data_in line.entry.value.now)) told.findings) }
+) -> Result<ParsedLine, NoMemory>
+    ensures part { IfOk result (λ parsed. parsed.part ≡ part_by line.entry.kind (data_in line.entry.value.now)) }
+    ensures settled { IfOk result (λ parsed. ClaimsAreSettled
+        (claims_of known.old projects.now (Some line.entry.kind) (data_in line.entry.value.now)) parsed.findings) }
     ensures learned { OnOk result (known.new
         ≡ known_after known.old projects.now (Some line.entry.kind) (data_in line.entry.value.now)) }
     ensures kept { OnErr result (known.new ≡ known.old) }
 {
     let part = line.part();
     if !projects.feeds(line.change_part()) {
-        return Ok(Told {
+        return Ok(ParsedLine {
             part,
             findings: Vec::new(alloc),
         });
     }
-    Ok(Told {
+    Ok(ParsedLine {
         part,
         findings: read_fed(alloc, known, line)?,
     })

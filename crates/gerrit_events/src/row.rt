@@ -1,7 +1,7 @@
 //! The project and the branch of the change in a row of a query.
 
 ghost use Rattle.std.specs.Prelude.{◌≡◌, IfOk, IsUtf8, option_map};
-ghost use Rattle.gerrit_events.specs.Rows.{IsRow, RowSays, Tells, copied, place_in};
+ghost use Rattle.gerrit_events.specs.Rows.{IsRow, RowSays, SaysQueryLine, copied, place_in};
 ghost use Rattle.gerrit_events.specs.Trees.{data_in};
 
 use super::kind::Kind;
@@ -41,7 +41,7 @@ struct Found<'a> {
 
 /// What a line of the answer to a query says of where a change is. It costs O(n) for n bytes of the line.
 pub fn read_query_line(alloc: Global, line: &[u8]) -> Result<QueryLine, NoMemory>
-    ensures { IfOk result (Tells line.now) }
+    ensures { IfOk result (SaysQueryLine line.now) }
 {
     match str::from_utf8(line) {
         Ok(text) => read_query_text(alloc, text),
@@ -52,7 +52,7 @@ pub fn read_query_line(alloc: Global, line: &[u8]) -> Result<QueryLine, NoMemory
 /// The same of the text of a line.
 fn read_query_text(alloc: Global, text: &str) -> Result<QueryLine, NoMemory>
     requires { IsUtf8 text.now }
-    ensures { IfOk result (Tells text.now) }
+    ensures { IfOk result (SaysQueryLine text.now) }
 {
     let mut room = Scratch::new(alloc);
     match object_of(alloc, &mut room, text)? {

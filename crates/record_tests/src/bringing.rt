@@ -8,7 +8,7 @@ use event_filter::{
 };
 use footer_text::Bases;
 use gerrit_events::{
-    Ballot, EventFault, EventKey, Finding, Known, Listing, Part, Projects, Told, read_event,
+    Ballot, EventFault, EventKey, Finding, Known, Listing, ParsedLine, Part, Projects, read_event,
 };
 use op_text::write_body;
 use review_ops::Body;
@@ -287,9 +287,9 @@ fn findings_of(alloc: Global, found: &[Found]) -> Option<Vec<Finding>> {
 }
 
 /// What is asked for where a line is to be met by a record.
-fn asked_of(alloc: Global, state: &State, told: &Told) -> Option<BTreeSet<u32>> {
+fn asked_of(alloc: Global, state: &State, parsed: &ParsedLine) -> Option<BTreeSet<u32>> {
     let bases = Bases::new(alloc, &["https://r/"]).ok()?;
-    asked(alloc, state, Some(&bases), told).ok()
+    asked(alloc, state, Some(&bases), parsed).ok()
 }
 
 /// Numbers, in their order.
@@ -305,7 +305,10 @@ fn numbers_of(alloc: Global, asks: BTreeSet<u32>) -> Option<Vec<u32>> {
 fn asks_of(alloc: Global, record: &[(u32, Deed)], part: Part, found: &[Found]) -> Option<Vec<u32>> {
     let state = state_of(alloc, record)?;
     let findings = findings_of(alloc, found)?;
-    numbers_of(alloc, asked_of(alloc, &state, &Told { part, findings })?)
+    numbers_of(
+        alloc,
+        asked_of(alloc, &state, &ParsedLine { part, findings })?,
+    )
 }
 
 const NEEDY: Deed = Deed::PatchSet(
@@ -516,9 +519,9 @@ fn brought_by_line(
 ) -> Option<(String, Vec<u32>)> {
     let mut known = Known::new(alloc);
     let state = state_of(alloc, record)?;
-    let told = read_event(alloc, &mut known, &Projects::all(), line.as_bytes()).ok()?;
-    let asks = numbers_of(alloc, asked_of(alloc, &state, &told)?)?;
-    Some((brought_of_all(alloc, &state, told.findings)?, asks))
+    let parsed = read_event(alloc, &mut known, &Projects::all(), line.as_bytes()).ok()?;
+    let asks = numbers_of(alloc, asked_of(alloc, &state, &parsed)?)?;
+    Some((brought_of_all(alloc, &state, parsed.findings)?, asks))
 }
 
 /// A change whose second patch set has a veto that Gerrit copied to it.

@@ -87,8 +87,8 @@ fn current(state: &State) -> Option<Current> {
 fn met_by(alloc: Global, line: &str) -> Option<(String, Current)> {
     let mut known = Known::new(alloc);
     let mut state = approved(alloc)?;
-    let told = read_event(alloc, &mut known, &Projects::all(), line.as_bytes()).ok()?;
-    let met = meet_all(alloc, &mut state, told.findings)?;
+    let parsed = read_event(alloc, &mut known, &Projects::all(), line.as_bytes()).ok()?;
+    let met = meet_all(alloc, &mut state, parsed.findings)?;
     Some((met, current(&state)?))
 }
 

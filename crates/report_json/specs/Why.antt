@@ -24,7 +24,7 @@ use Rattle.ready_core.specs.Words.{refusal_text}
 use Rattle.ready_core.specs.declared.verdicts.Left.{Left}
 use Rattle.ready_core.specs.declared.verdicts.Refusal.{Refusal}
 use Rattle.ready_core.specs.declared.verdicts.Refusal.TheVariants.{Own, Cycle, Unknown, Dependency}
-use Rattle.why_text.specs.All.{TellsEach}
+use Rattle.why_text.specs.All.{WritesEach}
 use Rattle.why_text.specs.Chain.{IsChainOf}
 use Rattle.why_text.specs.Cycle.{AreOnItsCycle}
 use Rattle.why_text.specs.Why.{IsAskedOf}
@@ -119,7 +119,7 @@ pub record SaysConditions (file : List ℕ) (gate : GateRules) (state : State) (
   pub tried : List Tried
   pub are : AreTried gate state item tried
   pub objects : List Token
-  pub each : TellsEach (SaysTried file state item) tried objects
+  pub each : WritesEach (SaysTried file state item) tried objects
   pub members : added ≡ listed_tokens (codes "conditions") objects
 
 -- ---- the whole line

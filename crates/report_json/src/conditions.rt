@@ -5,7 +5,7 @@ ghost use Rattle.gate_rules.specs.Spelling.{SpellsGate};
 ghost use Rattle.json.specs.Token.{Token};
 ghost use Rattle.json_line.specs.Tokens.{AddsTokens};
 ghost use Rattle.state_core.specs.Items.{IsItem};
-ghost use Rattle.why_text.specs.All.{TellsEach};
+ghost use Rattle.why_text.specs.All.{WritesEach};
 ghost use Rattle.report_json.specs.Why.{SaysConditions, SaysTried};
 
 use super::asked::put_asked;
@@ -52,7 +52,7 @@ fn add_all_tried(
     requires spelled { SpellsGate file.now gate.now }
     requires there { IsItem state.now item }
     ensures { OnOk result ((added : List Token) × AddsTokens out.old out.new added
-        × TellsEach (SaysTried file.now state.now item) tried.now added) }
+        × WritesEach (SaysTried file.now state.now item) tried.now added) }
 {
     for one in tried {
         add_tried(alloc, out, file, gate, state, item, *one)?;

@@ -86,8 +86,8 @@ fn text_of(alloc: Global, findings: &[Finding]) -> Option<String> {
 /// What is found in a line where these projects are fed, as one text: the bodies as they are written, behind `~ ` where
 /// an event shows them, the listings as `= CHANGE,SET LABEL/VOTER ..`, and the faults as `! NAME KEY`, each on a line.
 fn found_of(alloc: Global, known: &mut Known, projects: &Projects, line: &[u8]) -> Option<String> {
-    let told = read_event(alloc, known, projects, line).ok()?;
-    text_of(alloc, told.findings.as_slice())
+    let parsed = read_event(alloc, known, projects, line).ok()?;
+    text_of(alloc, parsed.findings.as_slice())
 }
 
 /// What is found in a line where all projects are fed.
@@ -387,8 +387,8 @@ fn what_gerrit_says_beside_is_voted(rt: HostRuntime) {
 /// What a line is.
 fn part_of(alloc: Global, line: &str) -> Option<Part> {
     let mut known = Known::new(alloc);
-    let told = read_event(alloc, &mut known, &Projects::all(), line.as_bytes()).ok()?;
-    Some(told.part)
+    let parsed = read_event(alloc, &mut known, &Projects::all(), line.as_bytes()).ok()?;
+    Some(parsed.part)
 }
 
 /// Lines, and what they are.

@@ -4,7 +4,7 @@ use super::asserts::assert_found;
 use super::found::MEMORY;
 use byte_ends::{Broken, Drain, Ends, Source};
 use event_feed::{EventWriter, FeedFault, Input, Progress, Taker, events_run, feed_most};
-use gerrit_events::{Part, Projects, Told};
+use gerrit_events::{ParsedLine, Part, Projects};
 use std::alloc::{AllocError, Global};
 use std::process::Abort;
 
@@ -376,7 +376,7 @@ struct Counting {
 impl Taker for Counting {
     ghost rests = { λ old result new. Unit {0} };
 
-    ghost takes = { λ old number told result new. Unit {0} };
+    ghost takes = { λ old number parsed result new. Unit {0} };
 
     fn rest(&mut self) -> Result<(), FeedFault> {
         self.rests = self.rests.wrapping_add(1);
@@ -386,7 +386,7 @@ impl Taker for Counting {
         Ok(())
     }
 
-    fn take(&mut self, number: u64, _told: Told) -> Result<(), FeedFault> {
+    fn take(&mut self, number: u64, _told: ParsedLine) -> Result<(), FeedFault> {
         self.lines = number;
         if number == self.last_line {
             return Err(FeedFault::NoSite);

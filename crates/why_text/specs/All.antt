@@ -8,7 +8,7 @@ use Rattle.ready_core.specs.Words.{refusal_text}
 use Rattle.ready_core.specs.declared.verdicts.Refusal.TheVariants.{Own}
 use Rattle.state_core.specs.State.{State}
 use Rattle.state_core.specs.declared.item.Item.{Item}
-use Rattle.why_text.specs.Why.{TellsCondition}
+use Rattle.why_text.specs.Why.{WritesCondition}
 
 abbrev pub tried_word : Bool → List ℕ
 tried_word true = codes "breaks "
@@ -19,19 +19,20 @@ abbrev pub tried_line : Tried → List ℕ
 tried_line tried = as_line (tried_word tried.is_broken ++ refusal_text (Own tried.condition))
 
 -- that line, and then what the gate file asks and what the item's change has
-pub record TellsTried (file : List ℕ) (state : State) (item : Item) (tried : Tried) (text : List ℕ) : Type 0 where
+pub record WritesTried (file : List ℕ) (state : State) (item : Item) (tried : Tried) (text : List ℕ) : Type 0 where
   pub details : List ℕ
-  pub shown : TellsCondition file state item tried.condition details
+  pub shown : WritesCondition file state item tried.condition details
   pub lines : text ≡ tried_line tried ++ details
 
 -- the text, or the tokens, are those of each, one after the other
-abbrev pub TellsEach : {X Y : Type 0} → (X → List Y → Type 0) → List X → List Y → Type 0
-TellsEach Tells [] text = text ≡ []
-TellsEach {X} {Y} Tells (x ∷ xs) text = (first rest : List Y) × Tells x first × TellsEach Tells xs rest × (text ≡ first ++ rest)
+abbrev pub WritesEach : {X Y : Type 0} → (X → List Y → Type 0) → List X → List Y → Type 0
+WritesEach Writes [] text = text ≡ []
+WritesEach {X} {Y} Writes (x ∷ xs) text =
+    (first rest : List Y) × Writes x first × WritesEach Writes xs rest × (text ≡ first ++ rest)
 
 -- all conditions of the gate, in the order in which the item is judged
-pub record TellsConditions (file : List ℕ) (gate : GateRules) (state : State) (item : Item) (text : List ℕ)
+pub record WritesConditions (file : List ℕ) (gate : GateRules) (state : State) (item : Item) (text : List ℕ)
     : Type 0 where
   pub tried : List Tried
   pub are : AreTried gate state item tried
-  pub lines : TellsEach (TellsTried file state item) tried text
+  pub lines : WritesEach (WritesTried file state item) tried text

@@ -77,7 +77,7 @@ pub record IsAskedOf
   pub greatest : IsGreatestKnown change current
 
 -- what the gate file asks, and what the item's change has
-pub record TellsCondition (file : List ℕ) (state : State) (item : Item) (condition : Condition) (text : List ℕ)
+pub record WritesCondition (file : List ℕ) (state : State) (item : Item) (condition : Condition) (text : List ℕ)
     : Type 0 where
   pub want : Option Data
   pub change : Change
@@ -88,16 +88,16 @@ pub record TellsCondition (file : List ℕ) (state : State) (item : Item) (condi
 -- ---- the lines of a cause
 
 -- a line for each other item of a cycle
-pub record TellsCycle (gate : GateRules) (state : State) (item : Item) (text : List ℕ) : Type 0 where
+pub record WritesCycle (gate : GateRules) (state : State) (item : Item) (text : List ℕ) : Type 0 where
   pub others : List Item
   pub cycle : AreOnItsCycle gate state item others
   pub lines : text ≡ flat_map with_line others
 
-abbrev pub TellsCause : List ℕ → GateRules → State → Item → Refusal → List ℕ → Type 0
-TellsCause file gate state item (Own condition) text = TellsCondition file state item condition text
-TellsCause file gate state item Cycle text = TellsCycle gate state item text
-TellsCause file gate state item (Unknown number) text = text ≡ []
-TellsCause file gate state item (Dependency number) text = text ≡ []
+abbrev pub WritesCause : List ℕ → GateRules → State → Item → Refusal → List ℕ → Type 0
+WritesCause file gate state item (Own condition) text = WritesCondition file state item condition text
+WritesCause file gate state item Cycle text = WritesCycle gate state item text
+WritesCause file gate state item (Unknown number) text = text ≡ []
+WritesCause file gate state item (Dependency number) text = text ≡ []
 
 -- ---- the whole text
 
@@ -111,7 +111,7 @@ pub record IsLeftFor
   pub cause : Left
   pub chain : IsChain state verdicts first waiting cause
   pub details : List ℕ
-  pub shown : TellsCause file gate state cause.item cause.refusal details
+  pub shown : WritesCause file gate state cause.item cause.refusal details
   pub lines : text ≡ flat_map step_line waiting ++ step_line cause ++ details
 
 -- the item is ready; or it is left out, and why

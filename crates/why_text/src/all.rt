@@ -3,7 +3,7 @@
 ghost use Rattle.std.specs.Prelude.{◌≡◌, ◌++◌, IfOk, string_bytes};
 ghost use Rattle.gate_rules.specs.Spelling.{SpellsGate};
 ghost use Rattle.state_core.specs.Items.{IsItem};
-ghost use Rattle.why_text.specs.All.{TellsConditions, TellsEach, TellsTried, tried_word};
+ghost use Rattle.why_text.specs.All.{WritesConditions, WritesEach, WritesTried, tried_word};
 
 use super::details::condition_text;
 use super::words::add_refusal;
@@ -26,7 +26,7 @@ pub fn conditions_text(
 ) -> Result<String, NoMemory>
     requires spelled { SpellsGate file.now gate.now }
     requires there { IsItem state.now item }
-    ensures { IfOk result (λ text. TellsConditions file.now gate.now state.now item (string_bytes text)) }
+    ensures { IfOk result (λ text. WritesConditions file.now gate.now state.now item (string_bytes text)) }
 {
     let tried = gate.conditions(alloc, state, item)?;
     let text = tried_lines(alloc, file, gate, state, item, tried.as_slice())?;
@@ -44,7 +44,7 @@ fn tried_lines(
 ) -> Result<String, NoMemory>
     requires spelled { SpellsGate file.now gate.now }
     requires there { IsItem state.now item }
-    ensures { IfOk result (λ text. TellsEach (TellsTried file.now state.now item) tried.now (string_bytes text)) }
+    ensures { IfOk result (λ text. WritesEach (WritesTried file.now state.now item) tried.now (string_bytes text)) }
 {
     let mut text = String::new(alloc);
     for one in tried {
@@ -65,7 +65,7 @@ fn tried_text(
 ) -> Result<String, NoMemory>
     requires spelled { SpellsGate file.now gate.now }
     requires there { IsItem state.now item }
-    ensures { IfOk result (λ text. TellsTried file.now state.now item tried (string_bytes text)) }
+    ensures { IfOk result (λ text. WritesTried file.now state.now item tried (string_bytes text)) }
 {
     let details = condition_text(alloc, file, gate, state, item, tried.condition)?;
     let mut text = String::from_str(alloc, word_of(tried.is_broken))?;

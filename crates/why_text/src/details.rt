@@ -7,7 +7,7 @@ ghost use Rattle.change_core.specs.VoteShown.{approval_shown};
 ghost use Rattle.state_core.specs.Items.{IsItem};
 ghost use Rattle.gate_rules.specs.Spelling.{IsObject, SpellsGate};
 ghost use Rattle.gate_rules.specs.Wanted.{wanted_value};
-ghost use Rattle.why_text.specs.Why.{TellsCause, TellsCondition, approval_line, current_line, have_lines, why_status_line};
+ghost use Rattle.why_text.specs.Why.{WritesCause, WritesCondition, approval_line, current_line, have_lines, why_status_line};
 ghost use Rattle.why_text.specs.Why.{want_lines, with_line};
 
 use super::cycle::others_on_cycle;
@@ -31,7 +31,7 @@ pub fn details_of(
     requires spelled { SpellsGate file.now gate.now }
     requires there { IsItem state.now cause.item }
     ensures { IfOk result
-        (λ text. TellsCause file.now gate.now state.now cause.item cause.refusal (string_bytes text)) }
+        (λ text. WritesCause file.now gate.now state.now cause.item cause.refusal (string_bytes text)) }
 {
     match cause.refusal {
         Refusal::Own(condition) => condition_text(alloc, file, gate, state, cause.item, condition),
@@ -75,7 +75,7 @@ pub(super) fn condition_text(
 ) -> Result<String, NoMemory>
     requires spelled { SpellsGate file.now gate.now }
     requires there { IsItem state.now item }
-    ensures { IfOk result (λ text. TellsCondition file.now state.now item condition (string_bytes text)) }
+    ensures { IfOk result (λ text. WritesCondition file.now state.now item condition (string_bytes text)) }
 {
     let mut text = want_text(alloc, file, gate, condition)?;
     let change = state.change(item.change).unwrap();

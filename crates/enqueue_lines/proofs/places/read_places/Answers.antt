@@ -2,7 +2,7 @@ use Rattle.std.proofs.Common.{◌≡◌, ◌∙◌, ◌-◌, ◌<◌, true, fals
 use Rattle.std.specs.Prelude.{slice_get}
 use Rattle.std.specs.List.{AllZip}
 use Rattle.byte_ends.specs.Lines.{lines_of}
-use Rattle.gerrit_events.specs.Rows.{Tells}
+use Rattle.gerrit_events.specs.Rows.{SaysQueryLine}
 use Rattle.enqueue_lines.specs.Places.{AddsLine, ArePlacesOfRows}
 use Rattle.enqueue_lines.proofs.Rows.{all_taken, places_more, take_next}
 use Rattle.enqueue_lines.proofs.places.read_places.Goals as goal
@@ -20,7 +20,7 @@ returns-then-not-branch-clause-refused c =
       subst (λ n. slice_get all n ≡ Some c.in-Some.line.now) (sym place) next.3,
       says,
       placed.rows,
-      subst (λ n. AllZip Tells (take n all) placed.rows) (sym place) placed.tells,
+      subst (λ n. AllZip SaysQueryLine (take n all) placed.rows) (sym place) placed.says_line,
       placed.each,
     )
 
@@ -33,7 +33,8 @@ loop-line-preserved c =
     let more = places_more (take c.loop-line.number all) c.in-Some.line.now c.loop-line.places c.add_line.new.places c.loop-line.invariant.placed says in
     record {
       left = sym next.1 ∙ ap (λ n. drop n all) (sym place);
-      placed = subst (λ (lines : List (List ℕ)). ArePlacesOfRows lines c.add_line.new.places) (sym next.0 ∙ ap (λ n. take n all) (sym place)) more;
+      placed = subst (λ (lines : List (List ℕ)). ArePlacesOfRows lines c.add_line.new.places)
+          (sym next.0 ∙ ap (λ n. take n all) (sym place)) more;
       few = c.loop-line.invariant.few;
     }
 

@@ -1,6 +1,6 @@
 use Rattle.std.proofs.Common.{refl, subst}
 use Rattle.json_line.specs.Adding.{adds_then}
-use Rattle.why_text.specs.All.{TellsEach}
+use Rattle.why_text.specs.All.{WritesEach}
 use Rattle.report_json.specs.Why.{SaysTried}
 use Rattle.report_json.proofs.conditions.put_conditions.Goals as goal
 
@@ -13,7 +13,7 @@ returns c =
         tried = c.in_ok-tried.tried.items;
         are = c.in_ok-tried.ensures;
         objects = all.0;
-        each = subst (λ l. TellsEach (SaysTried c.args.file.now c.args.state.now c.args.item) l all.0) c.as_slice.ensures.value all.2;
+        each = subst (λ l. WritesEach (SaysTried c.args.file.now c.args.state.now c.args.item) l all.0) c.as_slice.ensures.value all.2;
         members = refl;
       },
     )

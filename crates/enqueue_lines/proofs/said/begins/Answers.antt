@@ -1,5 +1,0 @@
-use Rattle.enqueue_lines.proofs.Begins.{begins_so}
-use Rattle.enqueue_lines.proofs.said.begins.Goals as goal
-
-pub returns : goal.returns
-returns c = begins_so c.args.word.now c.args.line.now c.starts_with.result c.starts_with.ensures.value

@@ -1,6 +1,0 @@
-use Rattle.std.proofs.Common.{lit<}
-use Rattle.enqueue_lines.proofs.Numbers.{cut_so}
-use Rattle.enqueue_lines.proofs.said.cut_at_comma.Goals as goal
-
-pub returns : goal.returns
-returns c = λ front rest lacks is. cut_so 44 front rest c.args.text.now c.split_once.result c.split_once.ensures.cases (lit< tt) lacks is

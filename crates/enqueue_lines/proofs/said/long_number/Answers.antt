@@ -1,7 +1,0 @@
-use Rattle.std.proofs.Common.{arith}
-use Rattle.enqueue_lines.proofs.Numbers.{read_back}
-use Rattle.enqueue_lines.proofs.said.long_number.Goals as goal
-
-pub returns : goal.returns
-returns c = λ number fits is.
-    read_back _ 64 number c.args.digits.now c.parse.result c.ok.result fits fits is c.parse.ensures.value.0 c.ok.ensures.value
