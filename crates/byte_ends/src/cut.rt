@@ -41,7 +41,7 @@ impl<'a> Lines<'a> {
         let text = self.rest;
         let (line, rest) = cut(text);
         self.rest = rest;
-        Some(drop_cr(line))
+        Some(without_cr(line))
     }
 }
 
@@ -56,8 +56,8 @@ fn cut(text: &[u8]) -> (&[u8], &[u8])
     }
 }
 
-/// A line without the carriage return at its end.
-fn drop_cr(line: &[u8]) -> &[u8]
+/// A line without the carriage return at its end. It takes no memory.
+pub fn without_cr(line: &[u8]) -> &[u8]
     ensures { result.now ≡ without_cr line.now }
 {
     match line.split_last() {

@@ -25,7 +25,7 @@ mod traits;
 mod whole;
 
 pub use breaking::{Broken, Due, broken_fails_once};
-pub use cut::Lines;
+pub use cut::{Lines, without_cr};
 pub use faults::{BytesFault, Failed};
 pub use over_std::Ends;
 pub use traits::{Drain, Source, none_failed_means_ok};

@@ -16,8 +16,10 @@
 //! ```
 #![tactic(auto)]
 
+mod cut;
 mod reader;
 
+pub use cut::first_lf;
 pub use reader::LineReader;
 
 /// How many bytes a line of a session or of a journal may have, without its line end.

@@ -1,15 +1,13 @@
 //! Reads a source in blocks, and hands out its lines.
 
 ghost use Rattle.std.specs.Prelude.{◌≡◌, ◌≢◌, ◌++◌, List, ℕ, false, [], Ok, length, IfOk, IfErr, IsErrOf, OnErr};
-ghost use Rattle.std.specs.Prelude.{MatchOption};
 ghost use Rattle.std.specs.Io.KnownBytes.{Consumes, IsAtEnd, Keeps};
 ghost use Rattle.byte_ends.specs.ReadAll.{CountsRead};
-ghost use Rattle.byte_ends.specs.Lines.{without_cr};
 ghost use Rattle.line_reader.specs.Lines.{HasNoLf, HasFirstLf, Hands, PassesLine, PassesHeld};
 
-use byte_ends::{BytesFault, Source};
+use super::cut::first_lf;
+use byte_ends::{BytesFault, Source, without_cr};
 use lattice_core::NoMemory;
-use memchr::memchr;
 use std::alloc::{Allocator, Global};
 use std::marker::Model;
 
@@ -206,22 +204,5 @@ impl<A: Allocator + Copy> LineReader<A> {
             unreachable!()
         }
         Ok(count)
-    }
-}
-
-/// The place of the first LF.
-fn first_lf(bytes: &[u8]) -> Option<usize>
-    ensures { MatchOption result (HasNoLf bytes.now) (HasFirstLf bytes.now) }
-{
-    memchr(b'\n', bytes)
-}
-
-/// A piece without one carriage return at its end.
-fn without_cr(piece: &[u8]) -> &[u8]
-    ensures { result.now ≡ without_cr piece.now }
-{
-    match piece.split_last() {
-        Some((b'\r', front)) => front,
-        _ => piece,
     }
 }

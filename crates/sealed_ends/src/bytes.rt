@@ -1,20 +1,14 @@
 //! Bytes that are cut at their line ends.
 
 ghost use Rattle.std.specs.Prelude.{◌≡◌, ◌≤◌, drop, length, MatchOption};
-ghost use Rattle.line_reader.specs.Lines.{HasFirstLf, HasNoLf};
+ghost use Rattle.line_reader.specs.Lines.{HasNoLf};
 ghost use Rattle.sealed_ends.specs.Batches.{EndsBatch};
 
-use memchr::{memchr, memrchr};
+use line_reader::first_lf;
+use memchr::memrchr;
 
 /// How many bytes of lines are sealed at once, with their line ends; one line may have more.
 pub const BATCH: usize = 16_384;
-
-/// The place of the first LF. It takes no memory.
-pub fn first_lf(bytes: &[u8]) -> Option<usize>
-    ensures { MatchOption result (HasNoLf bytes.now) (HasFirstLf bytes.now) }
-{
-    memchr(b'\n', bytes)
-}
 
 /// The place of the line end up to which lines are sealed at once: the last among so many bytes at the front, or the
 /// first of all where none is among these. It takes no memory.
@@ -23,7 +17,7 @@ pub fn batch_end(bytes: &[u8], room: usize) -> Option<usize>
 {
     match memrchr(b'\n', &bytes[..room.min(bytes.len())]) {
         Some(at) => Some(at),
-        None => memchr(b'\n', bytes),
+        None => first_lf(bytes),
     }
 }
 

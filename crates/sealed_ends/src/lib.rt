@@ -24,7 +24,7 @@ mod fault;
 mod link;
 mod source;
 
-pub use bytes::{BATCH, batch_end, first_lf};
+pub use bytes::{BATCH, batch_end};
 pub use drain::SealedDrain;
 pub use fault::OpenFault;
 pub use link::{LinkDrain, LinkSource};

@@ -8,9 +8,10 @@ ghost use Rattle.line_reader.specs.Lines.{HasNoLf};
 ghost use Rattle.sealed_ends.specs.Opened.{FailsBy, failed_by, fault_by, held_by, left_by, left_of, opens_under, source_within};
 ghost use Rattle.sealed_ends.specs.Unread.{CountsOpenRead, IsNoBlockRead, IsFrontUnopened, IsUnreadSeal};
 
-use super::bytes::{drop_front, first_lf};
+use super::bytes::drop_front;
 use super::fault::OpenFault;
 use byte_ends::{Failed, Source};
+use line_reader::first_lf;
 use sealed_line::{SEALED_LIMIT, Seal};
 use std::alloc::Global;
 

@@ -11,7 +11,8 @@ ghost use Rattle.sealed_link.specs.Wires.{waiting_limit};
 ghost use Rattle.sealed_link.specs.declared.fault.WireFault.{WireFault as AnyFault};
 
 use super::fault::WireFault;
-use sealed_ends::{BATCH, batch_end, first_lf};
+use line_reader::first_lf;
+use sealed_ends::{BATCH, batch_end};
 use sealed_line::{SEALED_LIMIT, Seal, SessionKeys};
 use std::alloc::Global;
 use std::marker::Model;

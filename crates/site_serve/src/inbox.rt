@@ -6,8 +6,8 @@ ghost use Rattle.line_reader.specs.Lines.{HasFirstLf, HasNoLf};
 ghost use Rattle.sealed_link.specs.Lines.{OpensCame};
 ghost use Rattle.sealed_link.specs.declared.fault.WireFault.{WireFault as AnyFault};
 
-use line_reader::LINE_LIMIT;
-use memchr::memchr;
+use byte_ends::without_cr;
+use line_reader::{LINE_LIMIT, first_lf};
 use sealed_link::{Wire, WireFault};
 use std::alloc::{AllocError, Global};
 use std::marker::Model;
@@ -112,22 +112,5 @@ impl Inbox {
     {
         self.bytes.drain(..self.next);
         self.next = 0;
-    }
-}
-
-/// The index of the first LF.
-fn first_lf(bytes: &[u8]) -> Option<usize>
-    ensures { MatchOption result (HasNoLf bytes.now) (HasFirstLf bytes.now) }
-{
-    memchr(b'\n', bytes)
-}
-
-/// A line without the carriage return at its end.
-fn without_cr(line: &[u8]) -> &[u8]
-    ensures { result.now ≡ without_cr line.now }
-{
-    match line.split_last() {
-        Some((b'\r', front)) => front,
-        _ => line,
     }
 }
