@@ -1,8 +1,9 @@
 -- What the words of a command line ask for: each command's arguments, with the limits of their numbers, and what they
 -- say.
-use Rattle.std.specs.Prelude.{◌≡◌, ◌⊎◌, ◌↔◌, true, false, IsTrue, List, [], None, Some, codes, map, option_map}
+use Rattle.std.specs.Prelude.{◌≡◌, ◌⊎◌, ◌↔◌, ◌||◌, ◌∷◌, Bool, true, false, IsTrue, List, [], None, Some, codes, map, option_map}
 use Rattle.std.specs.Prelude.{string_bytes, unwrap_or}
 use Rattle.std.specs.List.{list_all, list_any}
+use Rattle.std.specs.Str.{bytes_eq}
 use Rattle.command_tree.specs.Matching.{AreFaulty, AskForHelp, AskForVersion, HasFlag, AreFaultlessWords, Matched, Row}
 use Rattle.command_tree.specs.Matching.{Text, all_of, first_of, matched_of}
 use Rattle.command_line.specs.declared.asked.Answer.{Answer}
@@ -87,12 +88,22 @@ HasKeys rows = first_of (codes "keys") rows ≡ None
     × (list_any is_there (words_of rows (codes "to")) ≡ false)
     × (list_all has_slash (words_of rows (codes "listen")) ≡ true)
 
+-- some text is there twice
+abbrev pub has_repeat : List Text → Bool
+has_repeat [] = false
+has_repeat (text ∷ later) = list_any (bytes_eq text) later || has_repeat later
+
+-- no peer is named twice
+abbrev pub NamesEachPeerOnce : List Row → Type 0
+NamesEachPeerOnce rows = has_repeat (words_of rows (codes "PEER")) ≡ false
+
 -- the arguments ask for this site
 abbrev pub IsSite : List Row → ServeWords → Type 0
 IsSite rows words = AreOptions rows words × GivesPeers rows (codes "PEER") words.peers.items
     × GivesPaths rows (codes "listen") words.sockets.items × GivesHosts rows (codes "listen") words.hosts.items
     × GivesNumbers rows (codes "sites") 1 65535 words.sites.items
     × GivesTexts rows (codes "http-host") (map string_bytes words.http_hosts.items) × HasStart rows × HasKeys rows
+    × NamesEachPeerOnce rows
 
 -- the arguments ask for this recovery
 pub record IsRecovery (rows : List Row) (words : RecoverWords) : Type 0 where

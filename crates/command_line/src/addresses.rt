@@ -2,7 +2,8 @@
 
 ghost use Rattle.std.specs.Prelude.{◌≡◌, IfOk, MatchBool, filter, map, not, option_map};
 ghost use Rattle.std.specs.List.{AllZip, list_all, list_any};
-ghost use Rattle.command_line.specs.Asking.{HasKeys, words_of};
+ghost use Rattle.std.specs.Str.{bytes_eq};
+ghost use Rattle.command_line.specs.Asking.{HasKeys, NamesEachPeerOnce, has_repeat, words_of};
 ghost use Rattle.command_line.specs.Values.{Finds, GivesAnyPage, GivesAnyPeer, GivesHosts, GivesPaths, GivesPeers};
 ghost use Rattle.command_line.specs.Values.{NamesPage};
 ghost use Rattle.command_tree.specs.Rows.{rows_in};
@@ -191,6 +192,37 @@ fn are_paths(words: &[&str]) -> bool
     words.iter().all(|word| has_slash(word))
 }
 
+/// Whether one of the words of PEER is there twice.
+pub fn names_a_peer_twice(values: &Values<'_>) -> bool
+    ensures { MatchBool result (¬ NamesEachPeerOnce (rows_in values.now)) (NamesEachPeerOnce (rows_in values.now)) }
+{
+    match values.texts("PEER") {
+        Some(words) => has_repeat(words),
+        None => false,
+    }
+}
+
+/// Whether a word is there twice. It costs O(n²) for n words.
+fn has_repeat(words: &[&str]) -> bool
+    ensures { result ≡ has_repeat (map (λ word. word.now) words.now) }
+{
+    let mut rest = words;
+    while let Some((first, later)) = rest.split_first() {
+        if is_among(later, first) {
+            return true;
+        }
+        rest = later;
+    }
+    false
+}
+
+/// Whether a word is among these.
+fn is_among(words: &[&str], word: &str) -> bool
+    ensures { result ≡ list_any (bytes_eq word.now) (map (λ other. other.now) words.now) }
+{
+    words.iter().any(|other| word == *other)
+}
+
 /// What the address of a peer has to be.
 const PEER: &str =
     "a port from 1 to 65535, the path of a Unix socket, which has a slash, or NAME@HOST:PORT";
@@ -204,6 +236,9 @@ const PAGE: &str = "a port from 0 to 65535, or the path of a Unix socket, which 
 /// What is wanted beside an address on another machine.
 const KEYS: &str = "an address on another machine needs --keys";
 
+/// What is wanted of peers.
+const ONCE: &str = "a peer is named once";
+
 /// How the help names the arguments that have addresses.
 const PEER_ARGUMENT: &str = "[PEER]...";
 
@@ -213,7 +248,7 @@ const HTTP_ARGUMENT: &str = "--http <ADDRESS>";
 
 const TO_ARGUMENT: &str = "--to <ADDRESS>";
 
-/// A word that should be an address and isn't, or that needs a file of keys.
+/// A word that should be an address and isn't, that needs a file of keys, or that is there twice.
 #[derive(Drop)]
 pub struct WrongWord<'a> {
     /// The argument that has it, as the help names that.
@@ -224,12 +259,12 @@ pub struct WrongWord<'a> {
 }
 
 /// The first word that should be an address and isn't; where all are, the first that needs a file of keys which isn't
-/// named.
+/// named; where none does, the first peer that is named twice.
 pub fn wrong_address<'a>(values: &Values<'a>) -> Option<WrongWord<'a>> {
     match misnamed(values) {
         Some(wrong) => Some(wrong),
         None if lacks_keys(values) => keyless(values),
-        None => None,
+        None => repeated(values),
     }
 }
 
@@ -260,6 +295,12 @@ fn keyless<'a>(values: &Values<'a>) -> Option<WrongWord<'a>> {
     Some(wrong(TO_ARGUMENT, word, KEYS))
 }
 
+/// The first peer that is named twice.
+fn repeated<'a>(values: &Values<'a>) -> Option<WrongWord<'a>> {
+    let word = first_repeat(values.texts("PEER"))?;
+    Some(wrong(PEER_ARGUMENT, word, ONCE))
+}
+
 /// A word of an argument that should be something else.
 fn wrong<'a>(argument: &'static str, word: &'a str, wanted: &'static str) -> WrongWord<'a> {
     WrongWord {
@@ -275,6 +316,18 @@ fn first_there<'a>(words: Option<&[&'a str]>) -> Option<&'a str> {
         if is_there(word) {
             return Some(*word);
         }
+    }
+    None
+}
+
+/// The first word that is there again later.
+fn first_repeat<'a>(words: Option<&[&'a str]>) -> Option<&'a str> {
+    let mut rest = words?;
+    while let Some((word, later)) = rest.split_first() {
+        if is_among(later, word) {
+            return Some(*word);
+        }
+        rest = later;
     }
     None
 }

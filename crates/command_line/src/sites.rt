@@ -6,7 +6,7 @@ ghost use Rattle.command_line.specs.Asking.{AreOptions, GivesMode, GivesPrinting
 ghost use Rattle.command_line.specs.Values.{Finds, GivesHosts, GivesPaths};
 ghost use Rattle.command_line.specs.declared.asked.ServeWords.{ServeWords};
 
-use super::addresses::{any_page_in, hosts_in, lacks_keys, paths_in, peers_in};
+use super::addresses::{any_page_in, hosts_in, lacks_keys, names_a_peer_twice, paths_in, peers_in};
 use super::asked::{Asked, Printing, ServeWords, SocketMode};
 use super::feeds::names_in;
 use super::numbers::{any_long_in, any_short_in, number_in, short_in, shorts_in};
@@ -27,7 +27,7 @@ pub fn serve_in<'a>(alloc: Global, values: &Values<'a>) -> Result<Option<Asked<'
     let Some(sites) = shorts_in(alloc, values, SITES)? else {
         return Ok(None);
     };
-    if lacks_start(values) || lacks_keys(values) {
+    if lacks_start(values) || lacks_keys(values) || names_a_peer_twice(values) {
         return Ok(None);
     }
     let http_hosts = names_in(alloc, values, "http-host")?;

@@ -585,6 +585,10 @@ const NUMBERS: [(&str, &str); 44] = [
         "error: invalid value 'k@b:1' for '[PEER]...': an address on another machine needs --keys",
     ),
     (
+        "serve g 8101 8102 8101 --site 1 --start 1",
+        "error: invalid value '8101' for '[PEER]...': a peer is named once",
+    ),
+    (
         "serve g k@b:0 --site 1 --start 1 --keys k",
         "error: invalid value 'k@b:0' for '[PEER]...': a port from 1 to 65535, the path of a Unix socket, which has a slash, or NAME@HOST:PORT",
     ),
