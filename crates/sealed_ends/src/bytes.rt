@@ -4,8 +4,7 @@ ghost use Rattle.std.specs.Prelude.{◌≡◌, ◌≤◌, drop, length, MatchOpt
 ghost use Rattle.line_reader.specs.Lines.{HasNoLf};
 ghost use Rattle.sealed_ends.specs.Batches.{EndsBatch};
 
-use line_reader::first_lf;
-use memchr::memrchr;
+use memchr::{memchr, memrchr};
 
 /// How many bytes of lines are sealed at once, with their line ends; one line may have more.
 pub const BATCH: usize = 16_384;
@@ -17,7 +16,7 @@ pub fn batch_end(bytes: &[u8], room: usize) -> Option<usize>
 {
     match memrchr(b'\n', &bytes[..room.min(bytes.len())]) {
         Some(at) => Some(at),
-        None => first_lf(bytes),
+        None => memchr(b'\n', bytes),
     }
 }
 
