@@ -1,16 +1,8 @@
 //! Where bytes are cut into lines.
 
-ghost use Rattle.std.specs.Prelude.{◌≤◌, MatchOption, length};
-ghost use Rattle.line_reader.specs.Lines.{HasFirstLf, HasNoLf};
+ghost use Rattle.std.specs.Prelude.{◌≤◌, length};
 
 use memchr::{memchr, memrchr};
-
-/// The place of the first LF.
-pub fn first_lf(bytes: &[u8]) -> Option<usize>
-    ensures { MatchOption result (HasNoLf bytes.now) (HasFirstLf bytes.now) }
-{
-    memchr(b'\n', bytes)
-}
 
 /// The place behind the first LF, or the end.
 pub fn past_first_lf(bytes: &[u8]) -> usize

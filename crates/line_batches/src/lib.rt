@@ -24,4 +24,4 @@ mod cuts;
 mod reading;
 
 pub use batches::{Batches, OneByOne, SideBySide};
-pub use cuts::{first_lf, past_first_lf, past_last_lf};
+pub use cuts::{past_first_lf, past_last_lf};

@@ -4,8 +4,8 @@ ghost use Rattle.std.specs.Prelude.{◌≡◌, ◌≤◌, ◌<◌, ◌-◌, ◌�
 ghost use Rattle.line_reader.specs.Lines.{HasNoLf};
 ghost use Rattle.line_batches.specs.Batches.{IsBatch, IsPlainLine};
 
-use super::cuts::{first_lf, past_first_lf};
-use line_reader::LINE_LIMIT;
+use super::cuts::past_first_lf;
+use line_reader::{LINE_LIMIT, first_lf};
 use op_text::read_op;
 use review_ops::Op;
 use std::alloc::Global;

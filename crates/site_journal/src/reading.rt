@@ -13,8 +13,8 @@ ghost use Rattle.site_journal.specs.Text.{header_line};
 
 use crate::fault::{JournalFault, LineCause};
 use crate::tape::Feed;
-use line_batches::{Batches, first_lf, past_first_lf, past_last_lf};
-use line_reader::LINE_LIMIT;
+use line_batches::{Batches, past_first_lf, past_last_lf};
+use line_reader::{LINE_LIMIT, first_lf};
 use op_text::{OpTextFault, read_op};
 use replica_core::{Gathering, Replica};
 use review_ops::Op;
