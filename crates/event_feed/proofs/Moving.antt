@@ -1,5 +1,5 @@
 -- What the parts of a step make of the next line.
-use Rattle.std.proofs.Common.{◌≡◌, ◌<◌, ℕ, Bool, true, false, List, [], ◌∷◌, ◌++◌, Result, Ok, Err, length}
+use Rattle.std.proofs.Common.{◌≡◌, ◌<◌, ◌≤◌, ℕ, Bool, true, false, List, [], ◌∷◌, ◌++◌, Result, Ok, Err, length}
 use Rattle.std.proofs.Common.{ltb, refl, sym, ap, ◌∙◌, subst, inl, inr, arith, append_assoc, length-append}
 use Rattle.std.specs.Io.KnownBytes.{Consumes, IsAtEnd}
 use Rattle.std.proofs.KnownBytes.{Consumes-trans}
@@ -7,7 +7,7 @@ use Rattle.byte_ends.specs.Failures.{OneFailed}
 use Rattle.byte_ends.specs.Lines.{as_line, without_cr}
 use Rattle.gerrit_events.specs.Projects.{Choice}
 use Rattle.gerrit_events.specs.Reading.{Reads, ParsedLine}
-use Rattle.line_reader.specs.Lines.{BeginsWithLine, HasNoLf, IsTooLong}
+use Rattle.line_reader.specs.Lines.{BeginsWithLine, HasNoLf, IsTooLong, endless}
 use Rattle.event_feed.proofs.LinesRead.{long_by}
 use Rattle.event_feed.specs.Ends.{Begin, HasCome, IsEndless, IsTextRead}
 use Rattle.event_feed.specs.Feed.{BreaksOff, EndsWith, HandsLast, BreaksFeed, IsEnd, IsTurn, Standing, no_event}
@@ -100,15 +100,22 @@ module _ {Taker : Type 0} (takes : Taker → ℕ → ParsedLine → Result (Unit
     whole : (more : List ℕ) → mid.held ++ more ≡ old.source.held ++ (came ++ more)
     whole more = ap (λ l. l ++ more) held ∙ append_assoc old.source.held came more
 
-    endless : (more : List ℕ) → HasNoLf (mid.held ++ more) → IsEndless limit (old.source.held ++ (came ++ more))
-    endless more plain = record {
-      more = omega (
-        arith,
-        long.more,
-        length-append old.source.held came,
-        length-append old.source.held (came ++ more),
-        length-append came more,
-      );
+    longer : (more : List ℕ) → limit < length (old.source.held ++ (came ++ more))
+    longer more =
+        omega (
+          arith,
+          long.more,
+          length-append old.source.held came,
+          length-append old.source.held (came ++ more),
+          length-append came more,
+        )
+
+    never_ends : (more : List ℕ) → HasNoLf (mid.held ++ more) → endless ≤ length more
+        → IsEndless limit (old.source.held ++ (came ++ more))
+    never_ends more plain far = record {
+      more = longer more;
+      long =
+          omega (arith, far, length-append old.source.held (came ++ more), length-append came more);
       plain = subst HasNoLf (whole more) plain;
     }
 
@@ -161,7 +168,7 @@ module _ {Taker : Type 0} (takes : Taker → ℕ → ParsedLine → Result (Unit
       end = end;
       same = (kept, same);
       ended = ends_with number (old.source.held ++ (came ++ more)) old.taker new.taker (end_of input old.progress) last
-          (let e = endless more plain in omega (arith, e.more)) h;
+          (let e = longer more in omega (arith, e)) h;
     }
 
     as_moved : (last : Result (Unit {0}) FeedFault) → IsEnd takes input number old new last
@@ -182,11 +189,11 @@ module _ {Taker : Type 0} (takes : Taker → ℕ → ParsedLine → Result (Unit
     ]
 
     broken_off : (fault : FeedFault) (more : List ℕ) → HasNoLf (mid.held ++ more)
-        → BreaksPassing mid new.source fault
+        → BreaksPassing more mid new.source fault
         → BreaksOff limit (old.source.held ++ (came ++ more)) old.source new.source fault
     broken_off Dropped more plain h = absurd h
     broken_off ReadFault more plain (inl one) = inl (subst (λ n. OneFailed n new.source.failed) none_failed one)
-    broken_off ReadFault more plain (inr none) = inr (endless more plain, none ∙ none_failed)
+    broken_off ReadFault more plain (inr none) = inr (never_ends more plain none.0, none.1 ∙ none_failed)
     broken_off WriteFault more plain h = absurd h
     broken_off NoMemory more plain h = h ∙ none_failed
     broken_off NoSite more plain h = absurd h

@@ -1,8 +1,8 @@
 -- What is known of the ends of a feed: of its source, and of what it writes to.
-use Rattle.std.specs.Prelude.{◌≡◌, ◌<◌, ℕ, List, ◌++◌, Option, Result, Ok, Err, length, take}
+use Rattle.std.specs.Prelude.{◌≡◌, ◌<◌, ◌≤◌, ℕ, List, ◌++◌, Option, Result, Ok, Err, length, take}
 use Rattle.std.specs.Io.KnownBytes.{Appends, Consumes}
 use Rattle.byte_ends.specs.Failures.{OneFailed}
-use Rattle.line_reader.specs.Lines.{HasNoLf}
+use Rattle.line_reader.specs.Lines.{HasNoLf, endless}
 use Rattle.event_feed.specs.declared.fault.FeedFault.{FeedFault}
 use Rattle.event_feed.specs.declared.fault.FeedFault.TheVariants.{Dropped, ReadFault, WriteFault, NoMemory, NoSite, Ended}
 use Rattle.event_feed.specs.declared.fault.FeedFault.TheVariants.{Incomplete, NoEnd, NoKey, NotAllowed, NotProved}
@@ -61,7 +61,8 @@ pub record HasCome (came : List ℕ) (source later : Begin) : Type 0 where
   pub consumed : Consumes source.left later.left came
   pub none_failed : later.failed ≡ source.failed
 
--- more bytes than a line may have, and no LF among them
+-- more bytes than a line may have, at least 2^64 - 1 of them, and no LF among them
 pub record IsEndless (limit : ℕ) (bytes : List ℕ) : Type 0 where
   pub more : limit < length bytes
+  pub long : endless ≤ length bytes
   pub plain : HasNoLf bytes

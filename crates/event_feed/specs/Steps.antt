@@ -1,12 +1,13 @@
 -- The contracts of the private functions that make up a step of a feed.
-use Rattle.std.specs.Prelude.{◌≡◌, ◌⊎◌, ℕ, Bool, true, false, List, ◌++◌, Option, Some, None, Result, Ok, Err}
+use Rattle.std.specs.Prelude.{◌≡◌, ◌≤◌, ◌⊎◌, ℕ, Bool, true, false, List, ◌++◌, Option, Some, None, Result, Ok, Err}
+use Rattle.std.specs.Prelude.{length}
 use Rattle.std.specs.Io.KnownBytes.{Consumes, IsAtEnd}
 use Rattle.byte_ends.specs.Failures.{OneFailed}
 use Rattle.byte_ends.specs.Lines.{as_line}
 use Rattle.gerrit_events.specs.Projects.{Choice}
 use Rattle.gerrit_events.specs.Reading.{Reads, ParsedLine}
 use Rattle.gerrit_events.specs.Revisions.{Revision}
-use Rattle.line_reader.specs.Lines.{HasNoLf}
+use Rattle.line_reader.specs.Lines.{HasNoLf, endless}
 use Rattle.event_feed.specs.Ends.{Begin, HasCome, IsTextRead}
 use Rattle.event_feed.specs.Feed.{EndsWith, Fails, HandsLast, IsEnd, IsTurn, IsUnrested, Standing, FeedTurn, no_event}
 use Rattle.event_feed.specs.Feed.{Waits, ended_by, with_taker}
@@ -28,19 +29,20 @@ abbrev pub goes_on : Option FeedFault → Result Bool FeedFault
 goes_on None = Ok true
 goes_on (Some fault) = Err fault
 
--- why passing over a line breaks off
-abbrev pub BreaksPassing : Begin → Begin → FeedFault → Type 0
-BreaksPassing source later Dropped = ⊥
-BreaksPassing source later ReadFault = OneFailed source.failed later.failed ⊎ (later.failed ≡ source.failed)
-BreaksPassing source later WriteFault = ⊥
-BreaksPassing source later NoMemory = later.failed ≡ source.failed
-BreaksPassing source later NoSite = ⊥
-BreaksPassing source later Ended = ⊥
-BreaksPassing source later Incomplete = ⊥
-BreaksPassing source later NoKey = ⊥
-BreaksPassing source later NotProved = ⊥
-BreaksPassing source later NotAllowed = ⊥
-BreaksPassing source later NoEnd = ⊥
+-- why passing over a line, of which these bytes came, breaks off
+abbrev pub BreaksPassing : List ℕ → Begin → Begin → FeedFault → Type 0
+BreaksPassing came source later Dropped = ⊥
+BreaksPassing came source later ReadFault =
+    OneFailed source.failed later.failed ⊎ ((endless ≤ length came) × (later.failed ≡ source.failed))
+BreaksPassing came source later WriteFault = ⊥
+BreaksPassing came source later NoMemory = later.failed ≡ source.failed
+BreaksPassing came source later NoSite = ⊥
+BreaksPassing came source later Ended = ⊥
+BreaksPassing came source later Incomplete = ⊥
+BreaksPassing came source later NoKey = ⊥
+BreaksPassing came source later NotProved = ⊥
+BreaksPassing came source later NotAllowed = ⊥
+BreaksPassing came source later NoEnd = ⊥
 
 module _ {Taker : Type 0} (rests : Taker → Result (Unit {0}) FeedFault → Taker → Type 0) where
   -- the taker rests where it has to
@@ -113,7 +115,7 @@ module _ {Taker : Type 0} (takes : Taker → ℕ → ParsedLine → Result (Unit
     pub consumed : Consumes source.left later.left came
     pub plain : HasNoLf (source.held ++ came)
     pub same : (after ≡ before) × (new ≡ old)
-    pub cause : BreaksPassing source later fault
+    pub cause : BreaksPassing came source later fault
 
   abbrev pub PassesOver : ℕ → Begin → Begin → Progress → Progress → Taker → Taker → Result (Unit {0}) FeedFault
       → Result Bool FeedFault → Type 0

@@ -219,6 +219,7 @@ fn pass_line<S: Source, T: Taker>(
             false,
         ),
         Err(BytesFault::NoMemory) => Err(FeedFault::NoMemory),
-        Err(_) => Err(FeedFault::ReadFault),
+        Err(BytesFault::ReadFault) => Err(FeedFault::ReadFault),
+        Err(BytesFault::TooLong) => Err(FeedFault::ReadFault),
     }
 }

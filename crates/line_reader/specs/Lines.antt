@@ -56,11 +56,17 @@ Hands old came (Err TooLong) new = IsTooLong old.limit (old.held ++ came) × (ne
 Hands old came (Err ReadFault) new = new.held ≡ old.held ++ came
 Hands old came (Err NoMemory) new = new.held ≡ old.held ++ came
 
+-- the fewest bytes of a line that is given up: those of 2^64 - 1 blocks of a byte
+abbrev pub endless : ℕ
+endless = 18446744073709551615
+
 -- what a call that passes over a line answers, by what was held before and after, where it reads these bytes
 abbrev pub PassesLine : List ℕ → List ℕ → Result Bool BytesFault → List ℕ → Type 0
 PassesLine old came (Ok true) new = (piece : List ℕ) × HasNoLf piece × (old ++ came ≡ as_line piece ++ new)
 PassesLine old came (Ok false) new = HasNoLf (old ++ came) × (new ≡ [])
-PassesLine old came (Err fault) new = HasNoLf (old ++ came) × (new ≡ [])
+PassesLine old came (Err TooLong) new = HasNoLf (old ++ came) × (new ≡ []) × (endless ≤ length came)
+PassesLine old came (Err ReadFault) new = HasNoLf (old ++ came) × (new ≡ [])
+PassesLine old came (Err NoMemory) new = HasNoLf (old ++ came) × (new ≡ [])
 
 -- the same where nothing is read
 abbrev pub PassesHeld : List ℕ → Bool → List ℕ → Type 0

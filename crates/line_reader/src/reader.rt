@@ -75,22 +75,23 @@ impl<A: Allocator + Copy> LineReader<A> {
 
     /// Passes over what comes up to the next LF, as the rest of a line that is too long, and says whether there was an
     /// LF: where not, the source is at its end. What was passed over isn't held: beside what was held before a block of
-    /// the source is held at most. Refusals: 6 `TooLong`, no LF was among 2^64 - 1 blocks; 7 `ReadFault`, the source
-    /// failed; 8 `NoMemory`. What was read until then is passed over. It costs O(n) for n bytes.
+    /// the source is held at most. Where an LF is held already the source isn't asked. Refusals: 6 `TooLong`, no LF was
+    /// among 2^64 - 1 blocks, each of at least a byte; 7 `ReadFault`, the source failed; 8 `NoMemory`. What was read until
+    /// then is passed over. It costs O(n) for n bytes.
     pub fn pass_over<S: Source>(&mut self, source: &mut S) -> Result<bool, BytesFault>
         ensures passes { (came : List ℕ) × Consumes (S.left source.old) (S.left source.new) came
             × PassesLine self.old.held came result self.new.held }
         ensures end { result ≡ Ok false → IsAtEnd (S.left source.new) }
         ensures limit { self.new.limit ≡ self.old.limit }
+        ensures prompt { ¬ HasNoLf self.old.held → source.new ≡ source.old }
         ensures counted { CountsRead (S.failed source.old) (S.failed source.new) result }
     {
         if self.pass_held() {
             return Ok(true);
         }
         for _block in 0..u64::MAX {
-            match self.read_block(source)? {
-                0 => return Ok(false),
-                _count => {}
+            if self.read_block(source)? == 0 {
+                return Ok(false);
             }
             if self.pass_held() {
                 return Ok(true);

@@ -1,4 +1,4 @@
-use Rattle.std.proofs.Common.{◌++◌, ◌∙◌, sym, subst}
+use Rattle.std.proofs.Common.{◌++◌, ◌∙◌, sym, subst, arith, length-append}
 use Rattle.std.proofs.KnownBytes.{Consumes-trans}
 use Rattle.line_reader.specs.Lines.{HasNoLf}
 use Rattle.line_reader.proofs.Passing.{alone, line_later, plain_on, plain_both}
@@ -7,7 +7,7 @@ use Rattle.line_reader.proofs.reader.LineReader.pass_over.Goals as goal
 pub returns-then-pass_held-2-clause-passes : goal.returns-then-pass_held-2-clause-passes
 returns-then-pass_held-2-clause-passes g c =
     let before = c.loop-block.invariant in
-    let read = c.in_ok-_count.ensures.read in
+    let read = c.in_ok-read_block.ensures.read in
     let passed = c.if-pass_held-2.ensures.passes in
     let came = alone c.loop-block.self.held c.read_block.new.self.held read.0 before.none read.2 in (
       before.came ++ read.0,
@@ -23,13 +23,14 @@ returns-then-pass_held-2-clause-passes g c =
 pub loop-block-preserved : goal.loop-block-preserved
 loop-block-preserved g c =
     let before = c.loop-block.invariant in
-    let read = c.in_ok-_count.ensures.read in
+    let read = c.in_ok-read_block.ensures.read in
     let passed = c.if-pass_held-2.ensures.passes in
     let came = alone c.loop-block.self.held c.read_block.new.self.held read.0 before.none read.2 in record {
       came = before.came ++ read.0;
       read = Consumes-trans _ _ _ before.came read.0 before.read read.3;
       plain = plain_on c.args.self.now.held before.came read.0 before.plain (subst HasNoLf (sym came) passed.0);
       none = passed.1;
-      limit = c.pass_held-in-loop-block.ensures.limit ∙ c.in_ok-_count.ensures.limit ∙ before.limit;
-      counted = c.in_ok-_count.ensures.counted ∙ before.counted;
+      some = omega (arith, before.some, length-append before.came read.0, read.1, c.in_ok-read_block.ensures, c.if-branch-eq0.false);
+      limit = c.pass_held-in-loop-block.ensures.limit ∙ c.in_ok-read_block.ensures.limit ∙ before.limit;
+      counted = c.in_ok-read_block.ensures.counted ∙ before.counted;
     }
