@@ -1,7 +1,8 @@
 -- What a crash leaves of a journal says what it has.
 use Rattle.std.proofs.Common.{◌≡◌, ◌∙◌, ℕ, ◌+◌, List, [], ◌∷◌, ◌++◌, Option, Some, None, Result, Ok, Err, ap, arith}
 use Rattle.std.proofs.Common.{append_assoc, length, length-append, append-nil, subst, sym, take}
-use Rattle.std.specs.Prelude.{IfSome, OnErr}
+use Rattle.std.proofs.lemmas.Bool.{false≢true}
+use Rattle.std.specs.Prelude.{IfSome, IsSome, OnErr}
 use Rattle.review_ops.specs.Operation.{Operation}
 use Rattle.site_journal.specs.Book.{Book, IsHolding, Recovers}
 use Rattle.site_journal.specs.Prefixes.{IsPrefix}
@@ -46,6 +47,11 @@ front_survives None ops more h = tt
 front_survives (Some i) ops more h = λ left is.
     let r = h left is in
     (more ++ r.0, r.1, subst (λ all. SaysJournal left all r.1) (append_assoc ops more r.0) r.2)
+
+-- a tape of which something is known at first is known afterwards
+pub still_known : (old new : Option Image) → IfSome old (λ i. IsSome new) → IsSome old → IsSome new
+still_known None new stays known = absurd (false≢true known)
+still_known (Some i) new stays known = stays
 
 pub on_err : {A E : Type 0} (result : Result A E) (P : Type 0) → P → OnErr result P
 on_err (Ok value) P p = tt

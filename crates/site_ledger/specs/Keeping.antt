@@ -1,6 +1,7 @@
 -- What is published was kept: the write-ahead rule, by which what a change is recorded in is on disk before the change
 -- is shown (Mohan et al., ACM Transactions on Database Systems 17, 1992, 1.1).
-use Rattle.std.specs.Prelude.{◌≡◌, ◌<◌, ◌≤◌, ℕ, Bool, true, false, List, ◌++◌, IfSome, drop, flat_map, length, take}
+use Rattle.std.specs.Prelude.{◌≡◌, ◌<◌, ◌≤◌, ℕ, Bool, true, false, List, ◌++◌, IfSome, IsSome}
+use Rattle.std.specs.Prelude.{drop, flat_map, length, take}
 use Rattle.review_ops.specs.Operation.{Operation}
 use Rattle.site_shared.specs.Accounts.{Account}
 use Rattle.site_journal.specs.Book.{Book}
@@ -13,6 +14,10 @@ use Rattle.site_ledger.specs.declared.ledger.LedgerFault.TheVariants.{NoMemory, 
 abbrev pub Survive : Book → List Operation → Type 0
 Survive book ops = IfSome book.image
     (λ i. (left : List ℕ) → IsLeftBy i left → (more : List Operation) × (rest : List ℕ) × SaysJournal left (ops ++ more) rest)
+
+-- it is known what the tape of the journal has: only of such a one `Survive` says something
+abbrev pub IsKnown : Book → Type 0
+IsKnown book = IsSome book.image
 
 -- what a ledger has: the account of its desk, what keeps its operations, how many of those that are held are kept, and
 -- whether no more can be kept

@@ -15,6 +15,9 @@ pub trait Keeps {
     /// Whatever a crash leaves of it begins with these operations, in this order.
     ghost survives: { Self → List Operation → Type 0 };
 
+    /// It is known what it stores them in. Of a keeper of which that isn't known `survives` may hold of any operations.
+    ghost is_known: { Self → Type 0 };
+
     /// A law: what it has survives a crash.
     fn what_it_has_survives(&self)
         ensures { (ops : List Operation) → holds self.now ops → survives self.now ops };
@@ -30,7 +33,9 @@ pub trait Keeps {
             ((before : List Operation) → holds self.old before → holds self.new (before ++ ops.now)) }
         ensures err { OnErr result ((before : List Operation) → holds self.old before → survives self.new before) }
         ensures memory { result ≡ Err NoMemory → (before : List Operation) → holds self.old before
-            → holds self.new before };
+            → holds self.new before }
+        // What is known of it stays known, whether the call fails or not.
+        ensures known { is_known self.old → is_known self.new };
 
     /// How many bytes it has, if it is a journal: for metrics; the trait promises nothing of it.
     fn bytes(&self) -> Option<u64>;
@@ -44,6 +49,8 @@ impl Keeps for NoJournal {
     ghost holds = { λ _ _. Unit {0} };
 
     ghost survives = { λ _ _. Unit {0} };
+
+    ghost is_known = { λ _. Unit {0} };
 
     fn what_it_has_survives(&self) {}
 
@@ -60,11 +67,13 @@ impl Keeps for NoJournal {
 
 impl<T: Tape> Keeps for Journal<T> {
     ghost use Rattle.site_journal.specs.Book.{IsHolding};
-    ghost use Rattle.site_ledger.specs.Keeping.{Survive};
+    ghost use Rattle.site_ledger.specs.Keeping.{IsKnown, Survive};
 
     ghost holds = { IsHolding };
 
     ghost survives = { Survive };
+
+    ghost is_known = { IsKnown };
 
     fn what_it_has_survives(&self) {}
 

@@ -87,6 +87,7 @@ impl<K: Keeps> Ledger<K> {
             (λ fault. (self.new ≡ self.old) × RefusesIntake self.old.account (deed_of draft) fault self.old.account) }
         ensures same { IsSameKeeping self.old self.new }
         ensures on { KeepsOn K.holds K.survives self.old self.new }
+        ensures known { K.is_known self.old.keeper → K.is_known self.new.keeper }
     {
         self.desk.hold(draft)
     }
@@ -98,6 +99,7 @@ impl<K: Keeps> Ledger<K> {
         ensures err { OnErr result (self.new ≡ self.old) }
         ensures same { IsSameKeeping self.old self.new }
         ensures on { KeepsOn K.holds K.survives self.old self.new }
+        ensures known { K.is_known self.old.keeper → K.is_known self.new.keeper }
     {
         self.desk.hold_new(op)
     }
@@ -125,6 +127,7 @@ impl<K: Keeps> Ledger<K> {
         ensures over { self.old.is_over ≡ true → self.new ≡ self.old }
         ensures opening { IsSameOpening self.old.account self.new.account }
         ensures on { KeepsOn K.holds K.survives self.old self.new }
+        ensures known { K.is_known self.old.keeper → K.is_known self.new.keeper }
     {
         self.keep_held()?;
         match self.desk.flush(rt) {
@@ -169,6 +172,7 @@ impl<K: Keeps> Ledger<K> {
         ensures err { IfErr result (λ fault. self.new.is_over ≡ is_over_after fault) }
         ensures over { self.old.is_over ≡ true → self.new ≡ self.old }
         ensures on { KeepsOn K.holds K.survives self.old self.new }
+        ensures known { K.is_known self.old.keeper → K.is_known self.new.keeper }
     {
         if self.is_over {
             return Err(LedgerFault::NotKept);

@@ -24,6 +24,8 @@ impl Keeps for Failing {
 
     ghost survives = { λ _ _. Unit {0} };
 
+    ghost is_known = { λ _. Unit {0} };
+
     fn what_it_has_survives(&self) {}
 
     fn what_comes_first_survives(&self) {}
