@@ -32,6 +32,7 @@ pub struct RunOutcome {
 /// The result of a site that couldn't be run.
 pub fn failed_site<K: Keeps>(keeper: K, fault: ServeFault) -> EndedSite<K>
     ensures keeps { (begun : List Operation) → HasKept K.survives (K.holds keeper) begun result.keeper result.served }
+    ensures known { K.is_known keeper → K.is_known result.keeper }
     ensures fault { result.served ≡ Err fault }
 {
     keeper.what_it_has_survives();

@@ -137,7 +137,8 @@ impl<J: Opening, K: Keeps> GroupCommit<J, K> {
 
     /// Ends the ledger, as `OwnLedger::end` does. Who waits isn't answered.
     pub fn end<R: Wait>(self, rt: &R) -> Remains<K>
-        ensures { HasShown K.survives J.had J.journal result.keeper (arc_value result.shown) }
+        ensures shown { HasShown K.survives J.had J.journal result.keeper (arc_value result.shown) }
+        ensures known { J.known → K.is_known result.keeper }
     {
         let GroupCommit { ledger, waiters: _ } = self;
         ledger.end(rt)

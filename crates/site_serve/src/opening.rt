@@ -201,6 +201,9 @@ pub trait Opening: Naming {
 
     /// Which operations what keeps them had then.
     ghost had: { List Operation → Type 0 };
+
+    /// It was known then what keeps them in, as `Keeps::is_known` says.
+    ghost known: { Type 0 };
 }
 
 impl Opening for Brand {
@@ -209,10 +212,12 @@ impl Opening for Brand {
     ghost journal = { [] };
 
     ghost had = { λ _. ⊥ };
+
+    ghost known = { ⊥ };
 }
 
-/// The ledger of the opening: after whatever its keeper had at first comes just what was published since, and survives.
-/// Contracts see what a `Ledger` has.
+/// The ledger of the opening: after whatever its keeper had at first comes just what was published since, and survives;
+/// and what was known of the keeper is still known. Contracts see what a `Ledger` has.
 pub struct OwnLedger<J: Opening, K: Keeps> {
     ledger: Ledger<K>,
     of: PhantomData<J>,
@@ -226,7 +231,8 @@ impl<J: Opening, K: Keeps> Model for OwnLedger<J, K> {
 
     ghost view = { λ own. own.ledger };
 
-    ghost invariant = { λ own. IsOfOpening K.holds K.survives J.book J.journal J.had own.ledger };
+    ghost invariant = { λ own. IsOfOpening K.holds K.survives J.book J.journal J.had own.ledger
+        × (J.known → K.is_known own.ledger.keeper) };
 }
 
 impl<J: Opening, K: Keeps> OwnLedger<J, K> {
@@ -234,7 +240,8 @@ impl<J: Opening, K: Keeps> OwnLedger<J, K> {
 
     /// The ledger, of this opening.
     pub fn new(ledger: Ledger<K>) -> OwnLedger<J, K>
-        requires { IsOfOpening K.holds K.survives J.book J.journal J.had ledger }
+        requires opening { IsOfOpening K.holds K.survives J.book J.journal J.had ledger }
+        requires known { J.known → K.is_known ledger.keeper }
         ensures { result ≡ ledger }
     {
         OwnLedger {
@@ -300,7 +307,8 @@ impl<J: Opening, K: Keeps> OwnLedger<J, K> {
 
     /// Ends the ledger, and gives back what keeps its operations, of which all that was published survives.
     pub fn end<R: Wait>(self, rt: &R) -> Remains<K>
-        ensures { HasShown K.survives J.had J.journal result.keeper (arc_value result.shown) }
+        ensures shown { HasShown K.survives J.had J.journal result.keeper (arc_value result.shown) }
+        ensures known { J.known → K.is_known result.keeper }
     {
         let OwnLedger { ledger, of: _ } = self;
         let remains = ledger.end(rt);

@@ -126,6 +126,9 @@ where
     // Whatever the keeper had survives in what is given back, with `more` after it; and the record is the first one
     // with just `more`.
     ensures keeps { HasKept K.survives (K.holds keeper) setup.entry.replica result.keeper result.served }
+
+    // What was known of the keeper is known of what is given back, so that this says something of it.
+    ensures known { K.is_known keeper → K.is_known result.keeper }
 {
     match prepare(rt, alloc, listeners, setup, stop, errors, hooks) {
         Ok(prepared) => run_prepared(rt, prepared, output, keeper),
@@ -385,6 +388,7 @@ where
     ensures used { list_any (is_used prepared.entry.context.options.guard.own prepared.entry.context.options.start) prepared.entry.replica ≡ true
         → IsErr result.served }
     ensures keeps { HasKept K.survives (K.holds keeper) prepared.entry.replica result.keeper result.served }
+    ensures known { K.is_known keeper → K.is_known result.keeper }
 {
     let PreparedSite {
         context,
@@ -499,7 +503,9 @@ where
     requires windows { All (λ window. window.book ≡ J.book) windows.items }
     requires keeper { (first : List Operation) × K.holds keeper first }
     requires had { (first : List Operation) → J.had first → K.holds keeper first }
-    ensures { HasKept K.survives J.had J.journal result.keeper result.served }
+    requires known { J.known → K.is_known keeper }
+    ensures keeps { HasKept K.survives J.had J.journal result.keeper result.served }
+    ensures known { J.known → K.is_known result.keeper }
 {
     let ledger: OwnLedger<J, K> = OwnLedger::new(Ledger::new(desk, keeper));
     match GroupCommit::new(context.alloc, ledger) {
@@ -516,8 +522,10 @@ fn end_site<J: Opening, K: Keeps>(
     outcome: Result<RunOutcome, ServeFault>,
     remains: Remains<K>,
 ) -> EndedSite<K>
-    requires { HasShown K.survives J.had J.journal remains.keeper (arc_value remains.shown) }
-    ensures { HasKept K.survives J.had J.journal result.keeper result.served }
+    requires shown { HasShown K.survives J.had J.journal remains.keeper (arc_value remains.shown) }
+    requires known { J.known → K.is_known remains.keeper }
+    ensures keeps { HasKept K.survives J.had J.journal result.keeper result.served }
+    ensures known { J.known → K.is_known result.keeper }
 {
     let Remains { keeper, shown } = remains;
     EndedSite {

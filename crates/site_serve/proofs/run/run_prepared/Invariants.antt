@@ -5,6 +5,10 @@ use Rattle.site_serve.proofs.run.run_prepared.Given as goal
 abbrev pub ghosts-run_opened-J-Naming : goal.ghosts-run_opened-J-Naming
 ghosts-run_opened-J-Naming g a = record { book = a.desk.book }
 
--- the record that it begins with, and what the keeper has
+-- the record that it begins with, what the keeper has, and what is known of it
 abbrev pub ghosts-run_opened-J-Opening : goal.ghosts-run_opened-J-Opening
-ghosts-run_opened-J-Opening g a = record { journal = arrive a.desk.published; had = g.K.Keeps.holds a.keeper }
+ghosts-run_opened-J-Opening g a = record {
+  journal = arrive a.desk.published;
+  had = g.K.Keeps.holds a.keeper;
+  known = g.K.Keeps.is_known a.keeper;
+}
