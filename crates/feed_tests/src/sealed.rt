@@ -86,7 +86,7 @@ where
     let (errors, written) = watched_end(*rt, alloc)?;
     let stop = Stop::new();
     let output = Ends::new(Vec::new(alloc));
-    let EndedSite { keeper: _, served } = serve_keeping(
+    let EndedSite { served, .. } = serve_keeping(
         rt, alloc, listeners, setup, &stop, output, errors, host, NoJournal,
     );
     let count = match ending(served) {

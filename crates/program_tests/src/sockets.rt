@@ -157,7 +157,7 @@ where
 {
     let (output, errors) = (Ends::new(Vec::new(alloc)), Ends::new(Vec::new(alloc)));
     let stop = Stop::new();
-    let EndedSite { keeper: _, served } = serve_keeping(
+    let EndedSite { served, .. } = serve_keeping(
         rt, alloc, listeners, setup, &stop, output, errors, &NoHooks, NoJournal,
     );
     served.ok()

@@ -43,7 +43,11 @@ pub fn finish<S: Saves, K>(snapshot_file: &mut S, ended_site: EndedSite<K>) -> F
     ensures saved { HasSaved S.saves snapshot_file.old result.left result.ended snapshot_file.new }
     ensures ends { EndsBy ended_site.served result.ended }
 {
-    let EndedSite { keeper, served } = ended_site;
+    let EndedSite {
+        keeper,
+        origin: _,
+        served,
+    } = ended_site;
     match served {
         Ok(served) => Finished {
             keeper,

@@ -16,6 +16,8 @@ use std::sync::Arc;
 pub struct EndedSite<K> {
     /// What keeps its operations.
     pub keeper: K,
+    /// The site and the start that it ran under.
+    pub origin: (u16, u32),
     /// What it leaves, or why it didn't run to its end.
     pub served: Result<Served, ServeFault>,
 }
@@ -30,14 +32,16 @@ pub struct RunOutcome {
 }
 
 /// The result of a site that couldn't be run.
-pub fn failed_site<K: Keeps>(keeper: K, fault: ServeFault) -> EndedSite<K>
+pub fn failed_site<K: Keeps>(keeper: K, origin: (u16, u32), fault: ServeFault) -> EndedSite<K>
     ensures keeps { (begun : List Operation) → HasKept K.survives (K.holds keeper) begun result.keeper result.served }
     ensures known { K.is_known keeper → K.is_known result.keeper }
+    ensures origin { (result.origin.0 ≡ origin.0) × (result.origin.1 ≡ origin.1) }
     ensures fault { result.served ≡ Err fault }
 {
     keeper.what_it_has_survives();
     EndedSite {
         keeper,
+        origin,
         served: Err(fault),
     }
 }

@@ -80,7 +80,11 @@ where
     let Ok(listeners) = one_listener(alloc, listener) else {
         return Err(ServeFault::NoMemory);
     };
-    let EndedSite { keeper: _, served } = serve_keeping(
+    let EndedSite {
+        keeper: _,
+        origin: _,
+        served,
+    } = serve_keeping(
         rt, alloc, listeners, setup, stop, output, errors, hooks, NoJournal,
     );
     served
@@ -129,10 +133,14 @@ where
 
     // What was known of the keeper is known of what is given back, so that this says something of it.
     ensures known { K.is_known keeper → K.is_known result.keeper }
+
+    // The desk that stamps what it takes in is one of this site, under this start.
+    ensures origin { (result.origin.0 ≡ setup.entry.site) × (result.origin.1 ≡ setup.entry.start) }
 {
+    let origin = (setup.site, setup.start);
     match prepare(rt, alloc, listeners, setup, stop, errors, hooks) {
         Ok(prepared) => run_prepared(rt, prepared, output, keeper),
-        Err(fault) => failed_site(keeper, fault),
+        Err(fault) => failed_site(keeper, origin, fault),
     }
 }
 
@@ -389,6 +397,8 @@ where
         → IsErr result.served }
     ensures keeps { HasKept K.survives (K.holds keeper) prepared.entry.replica result.keeper result.served }
     ensures known { K.is_known keeper → K.is_known result.keeper }
+    ensures origin { (result.origin.0 ≡ prepared.entry.context.options.guard.own)
+        × (result.origin.1 ≡ prepared.entry.context.options.start) }
 {
     let PreparedSite {
         context,
@@ -401,7 +411,7 @@ where
         Ok((desk, windows)) => run_opened::<Brand, R, W, E, T, K>(
             rt, &context, loop_setup, desk, windows, output, keeper,
         ),
-        Err(fault) => failed_site(keeper, open_fault(fault)),
+        Err(fault) => failed_site(keeper, (site, start), open_fault(fault)),
     }
 }
 
@@ -500,20 +510,24 @@ where
     K: Keeps,
     requires desk { desk.book ≡ J.book }
     requires opened { desk.published ≡ J.journal ∷ [] }
+    requires origin { (desk.site ≡ context.now.options.guard.own) × (desk.start ≡ context.now.options.start) }
     requires windows { All (λ window. window.book ≡ J.book) windows.items }
     requires keeper { (first : List Operation) × K.holds keeper first }
     requires had { (first : List Operation) → J.had first → K.holds keeper first }
     requires known { J.known → K.is_known keeper }
     ensures keeps { HasKept K.survives J.had J.journal result.keeper result.served }
     ensures known { J.known → K.is_known result.keeper }
+    ensures origin { (result.origin.0 ≡ context.now.options.guard.own)
+        × (result.origin.1 ≡ context.now.options.start) }
 {
+    let origin = (context.options.guard.own, context.options.start);
     let ledger: OwnLedger<J, K> = OwnLedger::new(Ledger::new(desk, keeper));
     match GroupCommit::new(context.alloc, ledger) {
         Ok(mut group) => {
             let outcome = run_group(rt, context, loop_setup, windows, &mut group, output);
-            end_site::<J, K>(outcome, group.end(rt))
+            end_site::<J, K>(outcome, group.end(rt), origin)
         }
-        Err(ledger) => end_site::<J, K>(Err(ServeFault::NoMemory), ledger.end(rt)),
+        Err(ledger) => end_site::<J, K>(Err(ServeFault::NoMemory), ledger.end(rt), origin),
     }
 }
 
@@ -521,15 +535,18 @@ where
 fn end_site<J: Opening, K: Keeps>(
     outcome: Result<RunOutcome, ServeFault>,
     remains: Remains<K>,
+    origin: (u16, u32),
 ) -> EndedSite<K>
     requires shown { HasShown K.survives J.had J.journal remains.keeper (arc_value remains.shown) }
     requires known { J.known → K.is_known remains.keeper }
     ensures keeps { HasKept K.survives J.had J.journal result.keeper result.served }
     ensures known { J.known → K.is_known result.keeper }
+    ensures origin { (result.origin.0 ≡ origin.0) × (result.origin.1 ≡ origin.1) }
 {
     let Remains { keeper, shown } = remains;
     EndedSite {
         keeper,
+        origin,
         served: served_of(outcome, shown),
     }
 }
