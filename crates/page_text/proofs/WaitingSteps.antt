@@ -1,20 +1,30 @@
 -- The title of a page, step by step.
-use Rattle.std.proofs.Common.{◌≡◌, ◌∙◌, ℕ, List, ◌++◌, ap, append_assoc}
+use Rattle.std.proofs.Common.{◌≡◌, ◌∙◌, ℕ, List, [], ◌++◌, ap, append_assoc, subst, sym}
 use Rattle.std.specs.Prelude.{IfSome, Option, None, Some, codes}
 use Rattle.markup_text.specs.Adding.{none_is_some}
 use Rattle.markup_text.specs.Growing.{Adds, AddsAll}
-use Rattle.page_text.specs.Titles.{IsEnded, IsTitled}
+use Rattle.page_text.specs.Titles.{IsEnded, IsTitled, LacksTitles}
 
 -- ---- titles
-pub titled : (title rest : List ℕ) (first second third : Option (List ℕ))
+-- what a page without a title begins with
+pub untitled : (html : List ℕ) (first second : Option (List ℕ)) → first ≡ Some [] → LacksTitles html
+    → Adds html first second → IfSome second LacksTitles
+untitled html first None begun lacks adds = tt
+untitled html None (Some new) begun lacks adds = absurd adds
+untitled html (Some old) (Some new) begun lacks adds =
+    let empty : old ≡ [] = cc in
+    subst LacksTitles (sym (adds ∙ ap (λ l. l ++ html) empty)) lacks
+
+pub titled : (title rest : List ℕ) (first second third : Option (List ℕ)) → IfSome first LacksTitles
     → Adds (codes "<title>" ++ title ++ codes "</title>") first second → Adds rest second third
     → IfSome third (IsTitled title)
-titled title rest first second None p q = tt
-titled title rest first None (Some html) p q = absurd q
-titled title rest None (Some begun) (Some html) p q = absurd p
-titled title rest (Some before) (Some begun) (Some html) p q = record {
+titled title rest first second None lacks p q = tt
+titled title rest first None (Some html) lacks p q = absurd q
+titled title rest None (Some begun) (Some html) lacks p q = absurd p
+titled title rest (Some before) (Some begun) (Some html) lacks p q = record {
   before = before;
   after = rest;
+  none_before = lacks;
   is = q ∙ ap (λ l. l ++ rest) p ∙ append_assoc before (codes "<title>" ++ title ++ codes "</title>") rest;
 }
 
@@ -22,6 +32,7 @@ titled_on : (title page more longer : List ℕ) → IsTitled title page → long
 titled_on title page more longer is_titled is = record {
   before = is_titled.before;
   after = is_titled.after ++ more;
+  none_before = is_titled.none_before;
   is = is ∙ ap (λ l. l ++ more) is_titled.is
       ∙ append_assoc is_titled.before ((codes "<title>" ++ title ++ codes "</title>") ++ is_titled.after) more
       ∙ ap (λ l. is_titled.before ++ l) (append_assoc (codes "<title>" ++ title ++ codes "</title>") is_titled.after more);

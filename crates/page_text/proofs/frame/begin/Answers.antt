@@ -4,12 +4,13 @@ use Rattle.markup_text.specs.Pieces.{piece_html}
 use Rattle.page_text.specs.Rowless.{begun_in}
 use Rattle.page_text.specs.declared.frame.TheConstants.{AFTER_TITLE, BEFORE_TITLE}
 use Rattle.page_text.proofs.RowlessSteps.{begun_then, begun_with, decimal_rowless, html_added, rowless_append}
-use Rattle.page_text.proofs.WaitingSteps.{titled}
+use Rattle.page_text.proofs.WaitingSteps.{titled, untitled}
 use Rattle.page_text.proofs.frame.begin.Goals as goal
 
 pub returns-clause-titled : goal.returns-clause-titled
 returns-clause-titled c =
     titled (flat_map piece_html c.args.title.now) _ c.add.new.self c.add_title.new.page c.add-2.new.self
+    (untitled BEFORE_TITLE.now c.new-page.result c.add.new.self c.new-page.ensures refl c.add.ensures)
     c.add_title.ensures c.add-2.ensures
 
 pub returns-clause-rowless : goal.returns-clause-rowless
