@@ -100,7 +100,7 @@ reviewgate_changes{status="MERGED"} 0
 # HELP reviewgate_ready_items Items that may enter the pipeline.
 # TYPE reviewgate_ready_items gauge
 reviewgate_ready_items 1
-# HELP reviewgate_held_items Open items that may not enter the pipeline, by reason.
+# HELP reviewgate_held_items Items that are held up by an approval, a cycle, an unknown change or a dependency, by reason.
 # TYPE reviewgate_held_items gauge
 reviewgate_held_items{reason="require approval 1"} 0
 reviewgate_held_items{reason="require approval 2"} 1

@@ -1,4 +1,5 @@
--- The causes that hold up open items, as the metrics count them: one of the approvals, or a refusal of another kind.
+-- The causes that hold up items, as the metrics count them: one of the approvals, or a refusal of another kind. An item
+-- that is over isn't held up.
 use Rattle.std.specs.Prelude.{ℕ, Bool, true, false, ◌&&◌, ◌==◌, List, ◌++◌, codes, decimal}
 use Rattle.gate_rules.specs.Words.{side_name}
 use Rattle.gate_rules.specs.declared.condition.Clause.{Clause}

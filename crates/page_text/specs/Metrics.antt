@@ -113,7 +113,7 @@ failures_text peers =
 abbrev pub peers_text : List PeerFacts → List ℕ
 peers_text peers = up_text peers ++ ages_text peers ++ pulls_text peers ++ failures_text peers
 
--- ---- what open items are held by
+-- ---- what items are held by
 
 -- so many approvals of a side, from this number on
 abbrev pub held_from : Side → ℕ → ℕ → List Held
@@ -126,11 +126,11 @@ all_held gate =
     held_from Require 1 (length gate.require.approvals) ++ held_from Reject 1 (length gate.reject.approvals)
     ++ Cycle ∷ Unknown ∷ Dependency ∷ []
 
--- how many open items each cause holds up
+-- how many items each cause holds up
 abbrev pub all_held_text : GateRules → List Left → List ℕ
 all_held_text gate out =
     family (codes "reviewgate_held_items") (codes "gauge")
-    (codes "Open items that may not enter the pipeline, by reason.")
+    (codes "Items that are held up by an approval, a cycle, an unknown change or a dependency, by reason.")
     ++ flat_map (held_text out) (all_held gate)
 
 -- ---- what the site served
@@ -188,7 +188,7 @@ now_text facts =
     work_text facts.workers facts.busy_workers facts.session_faults facts.refused_connections
     ++ journal_figures facts.journal ++ heard_text facts.heard_ms
 
--- the metrics of the record, of what holds up open items, of the site, of its peers, and of what it served
+-- the metrics of the record, of what holds up items, of the site, of its peers, and of what it served
 abbrev pub figures_text : GateRules → State → ℕ → Judged → Facts → List ℕ
 figures_text gate state operations verdicts facts =
     record_text operations state (length verdicts.ready) ++ all_held_text gate verdicts.out

@@ -1,4 +1,4 @@
-//! The causes that hold up open items, as the metrics count them.
+//! The causes that hold up items, as the metrics count them. An item that is over isn't held up.
 
 ghost use Rattle.std.specs.Prelude.{◌≡◌, ◌++◌, IfOk, OnOk, string_bytes};
 ghost use Rattle.page_text.specs.Metrics.{all_held, held_from};
@@ -9,7 +9,7 @@ use lattice_core::NoMemory;
 use ready_core::Refusal;
 use std::alloc::Global;
 
-/// What an open item is held by.
+/// What an item is held up by.
 #[derive(Clone, Copy)]
 pub enum Held {
     /// The approval of this number, from 1, on a side.

@@ -25,8 +25,8 @@ use replica_core::Replica;
 use state_core::State;
 use std::alloc::Global;
 
-/// The text of the metrics: of the record, of what holds up open items, of the site, of its peers, of what it served,
-/// of its threads, of its journal, and of its feeds. It costs O(n k) for n items and k approvals of the gate.
+/// The text of the metrics: of the record, of what holds up items, of the site, of its peers, of what it served, of its
+/// threads, of its journal, and of its feeds. It costs O(n k) for n items and k approvals of the gate.
 pub fn metrics_text(
     alloc: Global,
     gate: &Gate,
@@ -44,7 +44,7 @@ pub fn metrics_text(
     Ok(bytes)
 }
 
-/// Adds the metrics of the record, of what holds up open items, of the site, of its peers, and of what it served.
+/// Adds the metrics of the record, of what holds up items, of the site, of its peers, and of what it served.
 fn add_figures(
     alloc: Global,
     text: &mut Lines,
@@ -107,7 +107,7 @@ fn add_status(text: &mut Lines, state: &State, status: Status)
     add_labelled(text, "reviewgate_changes", "status", status.name(), count);
 }
 
-/// Adds how many open items each cause holds up.
+/// Adds how many items each cause holds up.
 fn add_held(alloc: Global, text: &mut Lines, gate: &Gate, out: &[Left])
     ensures { Adds (all_held_text gate.now out.now) text.old text.new }
 {
@@ -115,7 +115,7 @@ fn add_held(alloc: Global, text: &mut Lines, gate: &Gate, out: &[Left])
         text,
         "reviewgate_held_items",
         "gauge",
-        "Open items that may not enter the pipeline, by reason.",
+        "Items that are held up by an approval, a cycle, an unknown change or a dependency, by reason.",
     );
     match all_held(alloc, gate) {
         Ok(all) => add_all_held(alloc, text, out, all.as_slice()),
@@ -123,7 +123,7 @@ fn add_held(alloc: Global, text: &mut Lines, gate: &Gate, out: &[Left])
     }
 }
 
-/// Adds how many open items are held by each of these.
+/// Adds how many items are held by each of these.
 fn add_all_held(alloc: Global, text: &mut Lines, out: &[Left], all: &[Held])
     ensures { Adds (flat_map (held_text out.now) all.now) text.old text.new }
 {
@@ -132,7 +132,7 @@ fn add_all_held(alloc: Global, text: &mut Lines, out: &[Left], all: &[Held])
     }
 }
 
-/// Adds how many open items this cause holds up.
+/// Adds how many items this cause holds up.
 fn add_held_by(alloc: Global, text: &mut Lines, out: &[Left], held: Held)
     ensures { Adds (held_text out.now held) text.old text.new }
 {

@@ -10,7 +10,7 @@ returns-in-Ok c =
     let held = metrics.held_text c.args.out.now in
     adds_then c.args.text.now c.add_family.new.text c.add_all_held.new.text
     (samples.family (codes "reviewgate_held_items") (codes "gauge")
-    (codes "Open items that may not enter the pipeline, by reason."))
+    (codes "Items that are held up by an approval, a cycle, an unknown change or a dependency, by reason."))
     (flat_map held (metrics.all_held c.args.gate.now)) c.add_family.ensures
     (adds_of c.add_family.new.text c.add_all_held.new.text (flat_map held) (c.as_slice.ensures.value ∙ c.in-Ok.ensures)
     c.add_all_held.ensures)
