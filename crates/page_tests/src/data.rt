@@ -1,6 +1,6 @@
 //! The answers in JSON and other data formats, as whole texts.
 
-use super::record::shows;
+use super::record::{Record, has_part, shows};
 use page_routes::{Choice, Kind, Place, Route, Shown, Status};
 use page_text::{SCRIPT, STYLE, same_page};
 use std::test::Fail;
@@ -51,6 +51,20 @@ fn a_change_has_the_items_down_to_the_cause(rt: HostRuntime) {
         set: None,
     });
     let is_shown = shows(rt.alloc(), route, Status::Found, Kind::Json, &[WAITING]);
+    assert!(rt; is_shown);
+}
+
+/// The items from the first of three that wait for each other down to the cause.
+const CHAIN: &str =
+    r#","why":[{"change":1,"set":1,"subject":"Fix","ready":false,"refusal":"dependency 2"},{"change":2,"set":1,"subject":"Fix","ready":false,"refusal":"dependency 3"},{"change":3,"set":1,"subject":"Fix","ready":false,"refusal":"unknown 9"}],"#;
+
+#[test]
+fn a_change_has_the_whole_chain(rt: HostRuntime) {
+    let route = Route::ChangeData(Place {
+        change: 1,
+        set: None,
+    });
+    let is_shown = has_part(rt.alloc(), Record::Chain(3, 9), route, CHAIN);
     assert!(rt; is_shown);
 }
 

@@ -1,6 +1,6 @@
 //! The pages in HTML, as whole texts.
 
-use super::record::shows;
+use super::record::{Record, has_part, shows};
 use page_routes::{Choice, Kind, Place, Route, Shown, Status};
 use std::alloc::Global;
 
@@ -135,6 +135,22 @@ fn the_list_shows_open_items_and_why_they_wait(rt: HostRuntime) {
         page: 1,
     };
     let is_shown = is_list(rt.alloc(), open, LIST);
+    assert!(rt; is_shown);
+}
+
+/// The row of the first of three items that wait for each other: its cause is the last one.
+const CHAINED: &str =
+    r#"<td class="waits">dependency 2</td><td><a href="/change/3,1">3,1</a> unknown 9</td>"#;
+
+#[test]
+fn the_cause_is_at_the_end_of_the_chain(rt: HostRuntime) {
+    let open = Choice {
+        shown: Shown::Open,
+        reason: None,
+        words: None,
+        page: 1,
+    };
+    let is_shown = has_part(rt.alloc(), Record::Chain(3, 9), Route::List(open), CHAINED);
     assert!(rt; is_shown);
 }
 
@@ -297,6 +313,21 @@ fn a_change_shows_what_it_waits_for(rt: HostRuntime) {
         "Change 102,1: Open",
         WAITING,
     );
+    assert!(rt; is_shown);
+}
+
+/// The items from the first of three that wait for each other down to the cause.
+const CHAIN: &str = r#"<ol>
+<li class="waits"><a href="/change/1,1">1,1</a> dependency 2</li>
+<li class="waits"><a href="/change/2,1">2,1</a> dependency 3</li>
+<li class="waits"><a href="/change/3,1">3,1</a> unknown 9</li>
+</ol>
+"#;
+
+#[test]
+fn a_change_shows_the_whole_chain(rt: HostRuntime) {
+    let first = change_route(1, None);
+    let is_shown = has_part(rt.alloc(), Record::Chain(3, 9), first, CHAIN);
     assert!(rt; is_shown);
 }
 

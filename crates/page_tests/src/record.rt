@@ -1,8 +1,7 @@
 //! The records that the tests of pages use, and requests for their pages.
 
-ghost use Rattle.std.specs.List.Sorted.{IsStrictlySortedBy};
-ghost use Rattle.state_core.specs.Items.{item_cmp};
-ghost use Rattle.ready_core.specs.Verdicts.{items_out};
+ghost use Rattle.state_core.specs.State.{state_of};
+ghost use Rattle.ready_core.specs.Verdicts.{AreVerdicts};
 
 use super::drawings::{are_reached, are_so_many_reached, are_waiting};
 use super::lists::are_chosen_by;
@@ -222,7 +221,7 @@ fn answer_on(
     replica: &Replica,
     verdicts: &Verdicts,
 ) -> Option<Page>
-    requires { IsStrictlySortedBy item_cmp (items_out verdicts.now.out) }
+    requires { AreVerdicts gate.now (state_of replica.now) verdicts.now }
 {
     match peers(alloc) {
         Ok(peers) => page_of(alloc, route, gate, replica, verdicts, &facts(peers)).ok(),

@@ -1,6 +1,5 @@
 mod Pages
 mod RowSteps
-mod Steps
 mod SearchSteps
 mod OutSteps
 mod HeldSteps

@@ -1,41 +1,21 @@
 -- Items that are left out.
-use Rattle.std.proofs.Common.{◌≡◌, ℕ, ◌+◌, zero, suc, List, [], ◌∷◌, Contains, Option, None, Some, map}
-use Rattle.std.proofs.Common.{subst, sym, ap, arith}
-use Rattle.std.specs.Prelude.{MatchOption, IfSome, slice_get}
-use Rattle.std.specs.FinMap as finite
-use Rattle.std.proofs.lemmas.List.Elements.{Contains-append_left, Contains-append_right}
-use Rattle.lattice_core.specs.MemberLaws.{Contains-first, Contains-later, Contains-of_map, Contains-to_map}
-use Rattle.change_core.specs.Change.{Change}
-use Rattle.change_core.specs.Views.{IsGreatestKnown}
-use Rattle.state_core.specs.State.{State}
-use Rattle.state_core.specs.Items.{IsCurrentItem}
+use Rattle.std.proofs.Common.{◌≡◌, ℕ, ◌+◌, zero, suc, List, [], ◌∷◌, Contains, None, Some, map}
+use Rattle.std.proofs.Common.{subst, arith, inl, inr}
+use Rattle.std.specs.Prelude.{slice_get}
+use Rattle.std.proofs.lemmas.List.Elements.{Contains-append_cases, Contains-append_left, Contains-append_right}
+use Rattle.lattice_core.specs.MemberLaws.{Contains-cons_cases, Contains-first, Contains-later, Contains-none}
+use Rattle.lattice_core.specs.MemberLaws.{Contains-of_map, Contains-to_map}
 use Rattle.state_core.specs.declared.item.Item.{Item}
 use Rattle.ready_core.specs.declared.verdicts.Left.{Left}
 use Rattle.ready_core.specs.Verdicts.{Judged, items_out}
 use Rattle.page_text.specs.declared.rows.Row.TheVariants.{Enters, Waits}
 use Rattle.page_text.specs.Rows.{all_rows, entering}
-use Rattle.page_text.specs.Walk.{IsCurrentOut, IsLeftOf}
 
 pub none_left : (out : List Left) (item : Item) → ((left : Left) → Contains out left → ¬ (left.item ≡ item))
     → ¬ Contains (items_out out) item
 none_left out item none has =
     let there = Contains-of_map (λ (left : Left). left.item) out item has in
     none there.0 there.1 there.2
-
-pub current_out : (state : State) (verdicts : Judged) (change set : ℕ) (at : Change) (out : List Left)
-    → finite.get state change ≡ Some at → IsGreatestKnown at set → out ≡ verdicts.out → (found : Option Left)
-    → MatchOption found (¬ Contains (items_out out) (record { change = change; set = set }))
-    (IsLeftOf out (record { change = change; set = set }))
-    → IfSome found (IsCurrentOut state verdicts change)
-current_out state verdicts change set at out stands greatest same None none = tt
-current_out state verdicts change set at out stands greatest same (Some left) is =
-    let item : Item = record { change = change; set = set } in
-    let current : IsCurrentItem state item = record { change = at; stands = stands; greatest = greatest } in
-    record {
-      there = subst (λ l. Contains l left) same is.there;
-      of = ap (λ (i : Item). i.change) is.of;
-      current = subst (IsCurrentItem state) (sym is.of) current;
-    }
 
 nothing_there : (item : Item) → None ≡ Some item → ⊥
 nothing_there item e = cc
@@ -69,3 +49,24 @@ pub out_has : (verdicts : Judged) (left : Left) → Contains verdicts.out left �
 out_has verdicts left there =
     Contains-append_right (entering 1 verdicts.ready) (map Waits verdicts.out) _
     (Contains-to_map Waits verdicts.out left there)
+
+none_waits : (first : ℕ) (items : List Item) (left : Left) → Contains (entering first items) (Waits left) → ⊥
+none_waits first [] left has = Contains-none (Waits left) has
+none_waits first (x ∷ items) left has = elim (Contains-cons_cases (Enters x first) (entering (suc first) items) (Waits left) has) [
+  | inl same ↦ cc
+  | inr later ↦ none_waits (suc first) items left later
+]
+
+same_left : (a b : Left) → Waits a ≡ Waits b → a ≡ b
+same_left a b e = cc
+
+-- the item of a row that waits is left out
+pub waits_out : (verdicts : Judged) (left : Left) → Contains (all_rows verdicts) (Waits left)
+    → Contains (items_out verdicts.out) left.item
+waits_out verdicts left has = elim (Contains-append_cases (entering 1 verdicts.ready) (map Waits verdicts.out) (Waits left) has) [
+  | inl ready ↦ absurd (none_waits 1 verdicts.ready left ready)
+  | inr out ↦
+      let found = Contains-of_map Waits verdicts.out (Waits left) out in
+      subst (λ (l : Left). Contains (items_out verdicts.out) l.item) (same_left found.0 left found.2)
+      (Contains-to_map (λ (l : Left). l.item) verdicts.out found.0 found.1)
+]

@@ -1,43 +1,71 @@
 -- The rows of a table, one after another, and the table in its page.
 use Rattle.std.proofs.Common.{◌≡◌, ◌∙◌, ◌+◌, ◌<◌, ℕ, List, [], ◌∷◌, ◌++◌, length, take, get_or, refl, ap, sym, subst, append_assoc, append-nil}
+use Rattle.std.proofs.Common.{All, Contains, drop}
 use Rattle.std.proofs.lemmas.List.{take_more}
+use Rattle.std.proofs.lemmas.List.Elements.{All-contains_itself, All-drop, All-filter, All-same, All-take}
+use Rattle.page_routes.specs.declared.route.Choice.{Choice}
 use Rattle.gate_rules.specs.Rules.{GateRules}
 use Rattle.ready_core.specs.Verdicts.{Judged}
 use Rattle.ready_core.specs.declared.verdicts.Left.{Left}
 use Rattle.ready_core.specs.declared.verdicts.Refusal.{Refusal}
 use Rattle.ready_core.specs.declared.verdicts.Refusal.TheVariants.{Dependency}
 use Rattle.state_core.specs.State.{State}
+use Rattle.state_core.specs.declared.item.Item.{Item}
 use Rattle.page_text.specs.declared.rows.Row.{Row}
 use Rattle.page_text.specs.declared.rows.Row.TheVariants.{Waits}
-use Rattle.page_text.specs.Table.{AddsCause, AddsRow, AddsRows, AddsTable, AreRows, EndsRow, HasTable, IsCauseHtml, about_html}
-use Rattle.page_text.specs.Table.{front_html, left_html, place_html, table_begins, table_ends, why_html}
-use Rattle.std.specs.Prelude.{IfSome, Option, None, Some, codes}
+use Rattle.page_text.specs.Table.{AddsCause, AddsEnd, AddsRow, AddsRows, AddsTable, AreRows, EndsRow, HasTable, IsCauseHtml}
+use Rattle.page_text.specs.Table.{about_html, front_html, left_html, place_html, table_begins, table_ends, why_html}
+use Rattle.std.specs.Prelude.{◌-◌, ◌*◌, IfSome, Option, None, Some, codes}
 use Rattle.markup_text.specs.Adding.{adds_then, grows_then, none_is_some}
 use Rattle.markup_text.specs.Growing.{Adds, AddsAll, Grows}
 use Rattle.page_text.specs.Rowless.{AddsRowless, IsRowless}
-use Rattle.page_text.specs.Rows.{row_item, rows_on}
+use Rattle.page_text.specs.Rows.{all_rows, chosen_rows, is_asked, row_item, rows_on}
 use Rattle.page_text.specs.Titles.{IsEnded}
-use Rattle.page_text.specs.Walk.{IsEndOfWalk}
+use Rattle.page_text.specs.Walk.{IsCauseOf}
 use Rattle.page_text.proofs.Adding.{then2}
 use Rattle.page_text.proofs.RowlessSteps.{end_rowless, lacks_rows, rowless_append}
 
 module _ (state : State) (verdicts : Judged) where
+  -- the end of an item's chain
+  pub end_added : (item : Item) (cause : Left) (a b : Option (List ℕ)) → IsCauseOf state verdicts item cause
+      → Adds (left_html cause) a b → Grows (AddsEnd state verdicts item) a b
+  end_added item cause a None ends adds = tt
+  end_added item cause None (Some new) ends adds = absurd adds
+  end_added item cause (Some old) (Some new) ends adds = record { cause = cause; ends = ends; is = adds }
+
   -- the cause of an item that waits for another one
-  pub cause_added : (left cause : Left) (change : ℕ) (a b : Option (List ℕ)) → left.refusal ≡ Dependency change
-      → IsEndOfWalk state verdicts left cause → Adds (left_html cause) a b → Grows (AddsCause state verdicts left) a b
-  cause_added left cause change a None is end adds = tt
-  cause_added left cause change None (Some new) is end adds = absurd adds
-  cause_added left cause change (Some old) (Some new) is end adds = record {
-    cause = left_html cause;
-    shown = subst (λ (refusal : Refusal). IsCauseHtml state verdicts left refusal (left_html cause)) (sym is) (cause, end, refl);
-    is = adds;
-  }
+  pub cause_added : (left : Left) (change : ℕ) (a b : Option (List ℕ)) → left.refusal ≡ Dependency change
+      → Grows (AddsEnd state verdicts left.item) a b → Grows (AddsCause state verdicts left) a b
+  cause_added left change a None is end = tt
+  cause_added left change None (Some new) is end = absurd end
+  cause_added left change (Some old) (Some new) is end =
+      let html = left_html end.cause in record {
+        cause = html;
+        shown = subst (λ (refusal : Refusal). IsCauseHtml state verdicts left refusal html) (sym is) (end.cause, end.ends, refl);
+        is = end.is;
+      }
 
   -- of any other one
   pub no_cause : (left : Left) (a : Option (List ℕ)) → IsCauseHtml state verdicts left left.refusal []
       → Grows (AddsCause state verdicts left) a a
   no_cause left None none = tt
   no_cause left (Some html) none = record { cause = []; shown = none; is = sym (append-nil html) }
+
+-- the rows that are asked for, and those of them that are on a page, are rows of verdicts
+pub chosen_there : (state : State) (choice : Choice) (verdicts : Judged) (rows : List Row)
+    → rows ≡ chosen_rows state choice verdicts → All (Contains (all_rows verdicts)) rows
+chosen_there state choice verdicts rows are =
+    let all = all_rows verdicts in
+    All-same (Contains all) rows (chosen_rows state choice verdicts) are
+    (All-filter (is_asked state choice) (Contains all) all (All-contains_itself all))
+
+pub shown_there : (verdicts : Judged) (page : ℕ) (rows shown : List Row) → shown ≡ rows_on page rows
+    → All (Contains (all_rows verdicts)) rows → All (Contains (all_rows verdicts)) shown
+shown_there verdicts page rows shown are there =
+    let all = all_rows verdicts in
+    let passed = 100 * (page - 1) in
+    All-same (Contains all) shown (rows_on page rows) are
+    (All-take (Contains all) 100 (drop passed rows) (All-drop (Contains all) passed rows there))
 
 module _ (gate : GateRules) (state : State) (verdicts : Judged) where
   -- a row that was added in three parts

@@ -15,7 +15,7 @@ use Rattle.page_text.specs.declared.rows.Row.TheVariants.{Enters, Waits}
 use Rattle.page_text.specs.Rowless.{LacksRows}
 use Rattle.page_text.specs.Rows.{row_item, rows_on}
 use Rattle.page_text.specs.Subject.{subject_of}
-use Rattle.page_text.specs.Walk.{IsEndOfWalk}
+use Rattle.page_text.specs.Walk.{IsCauseOf}
 use Rattle.page_text.specs.Wanted.{wanted_html}
 
 -- an item with a link to its page: <a href="/change/101,2">101,2</a>
@@ -56,13 +56,19 @@ reason_html gate (Dependency change) = html_of (refusal_text (Dependency change)
 abbrev pub why_html : GateRules → Refusal → List ℕ
 why_html gate refusal = codes "<td class=\"waits\">" ++ reason_html gate refusal ++ codes "</td>"
 
--- the cause: of an item that waits for another one, an item at the end of a walk from it
+-- the cause: of an item that waits for another one, the item at the end of the chain from it, which waits for none
 abbrev pub IsCauseHtml : State → Judged → Left → Refusal → List ℕ → Type 0
 IsCauseHtml state verdicts left (Own condition) html = html ≡ []
 IsCauseHtml state verdicts left Cycle html = html ≡ []
 IsCauseHtml state verdicts left (Unknown change) html = html ≡ []
 IsCauseHtml state verdicts left (Dependency change) html =
-    (cause : Left) × IsEndOfWalk state verdicts left cause × (html ≡ left_html cause)
+    (cause : Left) × IsCauseOf state verdicts left.item cause × (html ≡ left_html cause)
+
+-- the item at the end of the chain from an item was added, and nothing else
+pub record AddsEnd (state : State) (verdicts : Judged) (item : Item) (old new : List ℕ) : Type 0 where
+  pub cause : Left
+  pub ends : IsCauseOf state verdicts item cause
+  pub is : new ≡ old ++ left_html cause
 
 -- the cause was added, and nothing else
 pub record AddsCause (state : State) (verdicts : Judged) (left : Left) (old new : List ℕ) : Type 0 where

@@ -1,30 +1,25 @@
--- The walk from an item that is left out towards its cause: each item waits for the change of the next one. Its steps
--- are those of `why`.
-use Rattle.std.specs.Prelude.{◌≡◌, ℕ, List, [], ◌∷◌, ◌++◌, Some, Contains, slice_get}
+-- The walk from an item that is left out down to its cause: each item waits for the change of the next one, and the
+-- cause for none. Its steps are those of `why`.
+use Rattle.std.specs.Prelude.{◌≡◌, List, [], ◌∷◌, ◌++◌, Contains}
 use Rattle.state_core.specs.State.{State}
-use Rattle.state_core.specs.Items.{IsCurrentItem}
 use Rattle.state_core.specs.declared.item.Item.{Item}
 use Rattle.ready_core.specs.Verdicts.{Judged}
 use Rattle.ready_core.specs.declared.verdicts.Left.{Left}
-use Rattle.why_text.specs.Chain.{Path, WaitsFor}
+use Rattle.why_text.specs.Chain.{IsChainOf}
 
 -- the verdict is one of these, and on this item
 pub record IsLeftOf (out : List Left) (item : Item) (left : Left) : Type 0 where
   pub there : Contains out left
   pub of : left.item ≡ item
 
--- the verdict is on the current item of the change, which is left out
-pub record IsCurrentOut (state : State) (verdicts : Judged) (change : ℕ) (left : Left) : Type 0 where
-  pub there : Contains verdicts.out left
-  pub of : left.item.change ≡ change
-  pub current : IsCurrentItem state left.item
-
--- the items begin with the first one, and each waits for the next one
-pub record IsWalk (state : State) (verdicts : Judged) (first : Left) (steps : List Left) : Type 0 where
-  pub begins : slice_get steps 0 ≡ Some first
-  pub path : Path (WaitsFor state verdicts) steps
-
--- the item is the last one of some walk
-pub record IsEndOfWalk (state : State) (verdicts : Judged) (first last : Left) : Type 0 where
+-- the item's chain, with the cause as the last step
+pub record IsWalk (state : State) (verdicts : Judged) (item : Item) (steps : List Left) : Type 0 where
   pub waiting : List Left
-  pub walk : IsWalk state verdicts first (waiting ++ last ∷ [])
+  pub cause : Left
+  pub chain : IsChainOf state verdicts item waiting cause
+  pub is : steps ≡ waiting ++ cause ∷ []
+
+-- the cause at the end of the item's chain
+pub record IsCauseOf (state : State) (verdicts : Judged) (item : Item) (cause : Left) : Type 0 where
+  pub waiting : List Left
+  pub chain : IsChainOf state verdicts item waiting cause

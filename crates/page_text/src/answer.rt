@@ -1,11 +1,9 @@
 //! Answers a route.
 
 ghost use Rattle.std.specs.Prelude.{IfOk, MatchOption, length};
-ghost use Rattle.std.specs.List.Sorted.{IsStrictlySortedBy};
 ghost use Rattle.json.specs.Print.{print};
-ghost use Rattle.state_core.specs.Items.{item_cmp};
 ghost use Rattle.state_core.specs.State.{state_of};
-ghost use Rattle.ready_core.specs.Verdicts.{items_out};
+ghost use Rattle.ready_core.specs.Verdicts.{AreVerdicts};
 ghost use Rattle.page_text.specs.Answer.{IsPageAnswer, IsItemData, IsItemPage, IsListPage, IsOfItem, IsOfRecord};
 ghost use Rattle.page_text.specs.Answer.{IsPage, IsSamePage, IsText, event_text};
 ghost use Rattle.page_text.specs.Items.{items_tokens};
@@ -34,9 +32,9 @@ use why_text::item_asked;
 
 /// What is answered to a route: of a change that isn't known, or of which that patch set isn't, a page that says so,
 /// with the status `NotFound`, and else what is asked for, with the status `Found`. The verdicts are those of the
-/// replica's state under the gate, and those that are left out are in item order. Refusal: memory was refused. It costs
-/// O(n) for n items, for metrics O(n k) under a gate with k approvals, and where words are searched for O(n log n) and
-/// the product of their length with that of all subjects.
+/// replica's state under the gate. Refusal: memory was refused. It costs O(n) for n items, and for a page of the list
+/// O(k log n) more for k items in the chains of its rows, for metrics O(n k) under a gate with k approvals, and where
+/// words are searched for O(n log n) and the product of their length with that of all subjects.
 pub fn page_of(
     alloc: Global,
     route: &Route,
@@ -45,7 +43,7 @@ pub fn page_of(
     verdicts: &Verdicts,
     facts: &Facts,
 ) -> Result<Page, AllocError>
-    requires { IsStrictlySortedBy item_cmp (items_out verdicts.now.out) }
+    requires { AreVerdicts gate.now (state_of replica.now) verdicts.now }
     ensures { IfOk result
         (IsPageAnswer gate.now (state_of replica.now) (length replica.now) verdicts.now facts.now route.now) }
 {
@@ -64,7 +62,7 @@ fn answer(
     verdicts: &Verdicts,
     facts: &Facts,
 ) -> Result<Page, NoMemory>
-    requires { IsStrictlySortedBy item_cmp (items_out verdicts.now.out) }
+    requires { AreVerdicts gate.now (state_of replica.now) verdicts.now }
     ensures { IfOk result
         (IsPageAnswer gate.now (state_of replica.now) (length replica.now) verdicts.now facts.now route.now) }
 {
@@ -135,7 +133,7 @@ fn list_answer(
     verdicts: &Verdicts,
     facts: &Facts,
 ) -> Result<Page, NoMemory>
-    requires { IsStrictlySortedBy item_cmp (items_out verdicts.now.out) }
+    requires { AreVerdicts gate.now (state_of replica.now) verdicts.now }
     ensures { IfOk result (IsListPage gate.now (state_of replica.now) verdicts.now choice.now.page
         (chosen_rows (state_of replica.now) choice.now verdicts.now)) }
 {
@@ -204,7 +202,7 @@ fn change_answer(
     verdicts: &Verdicts,
     facts: &Facts,
 ) -> Result<Page, NoMemory>
-    requires { IsStrictlySortedBy item_cmp (items_out verdicts.now.out) }
+    requires { AreVerdicts gate.now state.now verdicts.now }
     ensures { IfOk result (IsOfItem state.now place
         (IsItemPage state.now) (IsPage Status.NotFound Kind.Html)) }
 {
@@ -224,7 +222,7 @@ fn change_data(
     state: &State,
     verdicts: &Verdicts,
 ) -> Result<Page, NoMemory>
-    requires { IsStrictlySortedBy item_cmp (items_out verdicts.now.out) }
+    requires { AreVerdicts gate.now state.now verdicts.now }
     ensures { IfOk result (IsOfItem state.now place
         (IsItemData verdicts.now) (IsText Status.NotFound Kind.Problem (print problem_tokens))) }
 {

@@ -1,9 +1,10 @@
 //! The HTML page of a change.
 
-ghost use Rattle.std.specs.Prelude.{IfOk, IfSome};
+ghost use Rattle.std.specs.Prelude.{Contains, IfOk, IfSome};
 ghost use Rattle.std.specs.List.Sorted.{IsStrictlySortedBy};
 ghost use Rattle.state_core.specs.Items.{IsItem, item_cmp};
-ghost use Rattle.ready_core.specs.Verdicts.{items_out};
+ghost use Rattle.ready_core.specs.Verdicts.{AreVerdicts, items_out};
+ghost use Rattle.page_text.specs.Rows.{all_rows};
 ghost use Rattle.page_text.specs.Titles.{IsTitled, item_title};
 
 use super::chain::walk_from;
@@ -49,7 +50,7 @@ pub fn change_page(
     verdicts: &Verdicts,
     facts: &Facts,
 ) -> Result<Vec<u8>, NoMemory>
-    requires rising { IsStrictlySortedBy item_cmp (items_out verdicts.now.out) }
+    requires judged { AreVerdicts gate.now state.now verdicts.now }
     requires there { IsItem state.now item }
     ensures { IfOk result (λ text. IsTitled (item_title state.now item) text.items) }
 {
@@ -93,7 +94,7 @@ fn begin_titled(alloc: Global, state: &State, item: Item, site: u16) -> Markup
 
 /// The part of the page that is the item's own.
 fn main_of(alloc: Global, item: Item, gate: &Gate, state: &State, verdicts: &Verdicts) -> Markup
-    requires rising { IsStrictlySortedBy item_cmp (items_out verdicts.now.out) }
+    requires judged { AreVerdicts gate.now state.now verdicts.now }
     requires there { IsItem state.now item }
 {
     let mut page = Markup::new(alloc);
@@ -167,7 +168,7 @@ fn add_verdict(
     verdicts: &Verdicts,
     item: Item,
 )
-    requires { IsStrictlySortedBy item_cmp (items_out verdicts.now.out) }
+    requires { AreVerdicts gate.now state.now verdicts.now }
 {
     match verdict_on(verdicts, item) {
         None => {}
@@ -185,9 +186,10 @@ fn add_walk(
     verdicts: &Verdicts,
     left: Left,
 )
-    requires { IsStrictlySortedBy item_cmp (items_out verdicts.now.out) }
+    requires judged { AreVerdicts gate.now state.now verdicts.now }
+    requires there { Contains (all_rows verdicts.now) (Row.Waits left) }
 {
-    match walk_from(alloc, state, verdicts, left) {
+    match walk_from(alloc, gate, state, verdicts, left) {
         Ok(steps) => add_steps(alloc, page, gate, steps.as_slice()),
         Err(_) => page.refuse(),
     }

@@ -1,9 +1,9 @@
 //! A change, as JSON.
 
-ghost use Rattle.std.specs.Prelude.{IfOk};
-ghost use Rattle.std.specs.List.Sorted.{IsStrictlySortedBy};
-ghost use Rattle.state_core.specs.Items.{IsItem, item_cmp};
-ghost use Rattle.ready_core.specs.Verdicts.{items_out};
+ghost use Rattle.std.specs.Prelude.{Contains, IfOk};
+ghost use Rattle.state_core.specs.Items.{IsItem};
+ghost use Rattle.ready_core.specs.Verdicts.{AreVerdicts};
+ghost use Rattle.page_text.specs.Rows.{all_rows};
 ghost use Rattle.page_text.specs.Waiting.{EndsInWaiting, waiting_for};
 
 use super::chain::walk_from;
@@ -32,7 +32,7 @@ pub fn change_text(
     state: &State,
     verdicts: &Verdicts,
 ) -> Result<Vec<u8>, NoMemory>
-    requires rising { IsStrictlySortedBy item_cmp (items_out verdicts.now.out) }
+    requires judged { AreVerdicts gate.now state.now verdicts.now }
     requires there { IsItem state.now item }
     ensures { IfOk result (λ text. EndsInWaiting (waiting_for item.change verdicts.now.out) text.items) }
 {
@@ -50,7 +50,7 @@ fn begin_change(
     state: &State,
     verdicts: &Verdicts,
 )
-    requires rising { IsStrictlySortedBy item_cmp (items_out verdicts.now.out) }
+    requires judged { AreVerdicts gate.now state.now verdicts.now }
     requires there { IsItem state.now item }
 {
     out.add(&[
@@ -63,7 +63,7 @@ fn begin_change(
     if let Some(change) = state.change(item.change) {
         add_change(out, change);
     }
-    add_steps(alloc, out, state, verdicts, item);
+    add_steps(alloc, out, gate, state, verdicts, item);
     put_conditions(alloc, out, gate, state, item);
     add_needs(alloc, out, gate, state, item);
 }
@@ -153,23 +153,38 @@ fn add_approval(out: &mut Sheet, approval: Approval<'_>) {
 }
 
 /// Adds a list of the item and of those that it waits for, down to the cause.
-fn add_steps(alloc: Global, out: &mut Sheet, state: &State, verdicts: &Verdicts, item: Item)
-    requires { IsStrictlySortedBy item_cmp (items_out verdicts.now.out) }
+fn add_steps(
+    alloc: Global,
+    out: &mut Sheet,
+    gate: &Gate,
+    state: &State,
+    verdicts: &Verdicts,
+    item: Item,
+)
+    requires { AreVerdicts gate.now state.now verdicts.now }
 {
     out.add(&[Mark::Key("why"), Mark::OpenList]);
     match verdict_on(verdicts, item) {
         None => {}
-        Some(Row::Waits(left)) => add_walk(alloc, out, state, verdicts, left),
+        Some(Row::Waits(left)) => add_walk(alloc, out, gate, state, verdicts, left),
         Some(row) => add_row(alloc, out, state, row),
     }
     out.add(&[Mark::CloseList]);
 }
 
 /// Adds an object for each item of the walk from one that waits.
-fn add_walk(alloc: Global, out: &mut Sheet, state: &State, verdicts: &Verdicts, left: Left)
-    requires { IsStrictlySortedBy item_cmp (items_out verdicts.now.out) }
+fn add_walk(
+    alloc: Global,
+    out: &mut Sheet,
+    gate: &Gate,
+    state: &State,
+    verdicts: &Verdicts,
+    left: Left,
+)
+    requires judged { AreVerdicts gate.now state.now verdicts.now }
+    requires there { Contains (all_rows verdicts.now) (Row.Waits left) }
 {
-    match walk_from(alloc, state, verdicts, left) {
+    match walk_from(alloc, gate, state, verdicts, left) {
         Ok(steps) => add_all(alloc, out, state, steps.as_slice()),
         Err(_) => out.refuse(),
     }

@@ -1,10 +1,8 @@
 //! The HTML page of the list of items.
 
 ghost use Rattle.std.specs.Prelude.{IfOk, IfSome};
-ghost use Rattle.std.specs.List.Sorted.{IsStrictlySortedBy};
-ghost use Rattle.state_core.specs.Items.{item_cmp};
 ghost use Rattle.state_core.specs.State.{state_of};
-ghost use Rattle.ready_core.specs.Verdicts.{items_out};
+ghost use Rattle.ready_core.specs.Verdicts.{AreVerdicts};
 ghost use Rattle.page_text.specs.Rowless.{AddsRowless, IsRowless};
 ghost use Rattle.page_text.specs.Rows.{chosen_rows};
 ghost use Rattle.page_text.specs.Table.{HasTable};
@@ -43,7 +41,7 @@ pub fn list_page(
     verdicts: &Verdicts,
     facts: &Facts,
 ) -> Result<Vec<u8>, NoMemory>
-    requires { IsStrictlySortedBy item_cmp (items_out verdicts.now.out) }
+    requires { AreVerdicts gate.now (state_of replica.now) verdicts.now }
     ensures { IfOk result (λ text. HasTable gate.now (state_of replica.now) verdicts.now choice.now.page
         (chosen_rows (state_of replica.now) choice.now verdicts.now) text.items) }
 {

@@ -1,13 +1,13 @@
 //! The table of a list.
 
-ghost use Rattle.std.specs.Prelude.{◌≡◌, IfSome};
-ghost use Rattle.std.specs.List.Sorted.{IsStrictlySortedBy};
+ghost use Rattle.std.specs.Prelude.{◌≡◌, Contains, IfSome};
+ghost use Rattle.std.specs.List.{All};
 ghost use Rattle.gate_rules.specs.Rules.{GateRules};
 ghost use Rattle.markup_text.specs.Growing.{Adds, Grows};
-ghost use Rattle.state_core.specs.Items.{item_cmp};
-ghost use Rattle.ready_core.specs.Verdicts.{Judged, items_out};
-ghost use Rattle.page_text.specs.Table.{AddsCause, AddsRow, AddsRows, AddsTable, EndsRow, about_html, pages_of};
-ghost use Rattle.page_text.specs.Table.{reason_html, table_begins, why_html};
+ghost use Rattle.ready_core.specs.Verdicts.{AreVerdicts, Judged};
+ghost use Rattle.page_text.specs.Rows.{all_rows};
+ghost use Rattle.page_text.specs.Table.{AddsCause, AddsEnd, AddsRow, AddsRows, AddsTable, EndsRow, about_html};
+ghost use Rattle.page_text.specs.Table.{pages_of, reason_html, table_begins, why_html};
 
 use super::chain::cause_of;
 use super::links::{add_item_link, add_left, add_refusal_words};
@@ -37,7 +37,8 @@ pub fn add_table(
     rows: &[Row],
     number: u32,
 )
-    requires { IsStrictlySortedBy item_cmp (items_out verdicts.now.out) }
+    requires judged { AreVerdicts gate.now state.now verdicts.now }
+    requires there { All (Contains (all_rows verdicts.now)) rows.now }
     ensures { Grows (AddsTable gate.now state.now verdicts.now number rows.now) page.old page.new }
 {
     add_head(page, number, rows.len());
@@ -76,7 +77,8 @@ fn add_rows(
     verdicts: &Verdicts,
     rows: &[Row],
 )
-    requires { IsStrictlySortedBy item_cmp (items_out verdicts.now.out) }
+    requires judged { AreVerdicts gate.now state.now verdicts.now }
+    requires there { All (Contains (all_rows verdicts.now)) rows.now }
     ensures { Grows (AddsRows gate.now state.now verdicts.now rows.now) page.old page.new }
 {
     for row in rows {
@@ -93,7 +95,8 @@ fn add_row(
     verdicts: &Verdicts,
     row: Row,
 )
-    requires { IsStrictlySortedBy item_cmp (items_out verdicts.now.out) }
+    requires judged { AreVerdicts gate.now state.now verdicts.now }
+    requires there { Contains (all_rows verdicts.now) row }
     ensures { Grows (AddsRow gate.now state.now verdicts.now row) page.old page.new }
 {
     match row {
@@ -125,7 +128,8 @@ fn add_waiting(
     verdicts: &Verdicts,
     left: Left,
 )
-    requires { IsStrictlySortedBy item_cmp (items_out verdicts.now.out) }
+    requires judged { AreVerdicts gate.now state.now verdicts.now }
+    requires there { Contains (all_rows verdicts.now) (Row.Waits left) }
     ensures { Grows (AddsRow gate.now state.now verdicts.now (Row.Waits left)) page.old page.new }
 {
     let cells = waiting_cells(alloc, gate, state, verdicts, left);
@@ -147,7 +151,7 @@ fn add_about(page: &mut Markup, state: &State, item: Item)
     ]);
 }
 
-/// The cells of why an item waits, and of the item at the end of those that it waits for, if it waits for one.
+/// The cells of why an item waits, and of its cause, if it waits for another one.
 fn waiting_cells(
     alloc: Global,
     gate: &Gate,
@@ -155,27 +159,55 @@ fn waiting_cells(
     verdicts: &Verdicts,
     left: Left,
 ) -> Markup
-    requires { IsStrictlySortedBy item_cmp (items_out verdicts.now.out) }
+    requires judged { AreVerdicts gate.now state.now verdicts.now }
+    requires there { Contains (all_rows verdicts.now) (Row.Waits left) }
     ensures { IfSome result (EndsRow gate.now state.now verdicts.now (Row.Waits left)) }
 {
     let mut cells = Markup::new(alloc);
     add_why(alloc, &mut cells, gate, left.refusal);
     cells.add(&[Piece::Markup("<td>")]);
-    add_cause(alloc, &mut cells, state, verdicts, left);
+    add_cause(alloc, &mut cells, gate, state, verdicts, left);
     cells.add(&[Piece::Markup("</td></tr>\n")]);
     cells
 }
 
-/// Adds the item at the end of those that an item waits for, if it waits for one.
-fn add_cause(alloc: Global, cells: &mut Markup, state: &State, verdicts: &Verdicts, left: Left)
-    requires { IsStrictlySortedBy item_cmp (items_out verdicts.now.out) }
+/// Adds the cause of an item, if it waits for another one.
+fn add_cause(
+    alloc: Global,
+    cells: &mut Markup,
+    gate: &Gate,
+    state: &State,
+    verdicts: &Verdicts,
+    left: Left,
+)
+    requires judged { AreVerdicts gate.now state.now verdicts.now }
+    requires there { Contains (all_rows verdicts.now) (Row.Waits left) }
     ensures { Grows (AddsCause state.now verdicts.now left) cells.old cells.new }
 {
     match left.refusal {
-        Refusal::Dependency(_) => add_left(alloc, cells, cause_of(state, verdicts, left)),
+        Refusal::Dependency(_) => add_end(alloc, cells, gate, state, verdicts, left),
         Refusal::Own(_) => {}
         Refusal::Cycle => {}
         Refusal::Unknown(_) => {}
+    }
+}
+
+/// Adds the item at the end of the chain from an item that waits.
+fn add_end(
+    alloc: Global,
+    cells: &mut Markup,
+    gate: &Gate,
+    state: &State,
+    verdicts: &Verdicts,
+    left: Left,
+)
+    requires judged { AreVerdicts gate.now state.now verdicts.now }
+    requires there { Contains (all_rows verdicts.now) (Row.Waits left) }
+    ensures { Grows (AddsEnd state.now verdicts.now left.item) cells.old cells.new }
+{
+    match cause_of(alloc, gate, state, verdicts, left) {
+        Ok(cause) => add_left(alloc, cells, cause),
+        Err(_) => cells.refuse(),
     }
 }
 

@@ -1,12 +1,13 @@
-use Rattle.std.proofs.Common.{◌++◌, ◌∷◌, [], List, subst, sym}
-use Rattle.ready_core.specs.declared.verdicts.Left.{Left}
-use Rattle.page_text.specs.Walk.{IsWalk}
-use Rattle.page_text.proofs.Steps.{walk_on}
+use Rattle.page_text.proofs.OutSteps.{waits_out}
 use Rattle.page_text.proofs.chain.walk_from.Goals as goal
 
-pub loop-preserved : goal.loop-preserved
-loop-preserved c = subst
-    (λ (l : List Left). IsWalk c.args.state.now c.args.verdicts.now c.args.first (l ++ c.in-Some.next ∷ []))
-    (sym c.in_ok-push.ensures.items)
-    (walk_on c.args.state.now c.args.verdicts.now c.args.first c.loop.last c.in-Some.next c.loop.steps.items
-    c.loop.invariant c.in-Some.ensures)
+pub chain_of-requires-clause-there : goal.chain_of-requires-clause-there
+chain_of-requires-clause-there c = waits_out c.args.verdicts.now c.args.first c.requires.there
+
+pub returns : goal.returns
+returns c = record {
+  waiting = c.in_ok-chain.chain.waiting.items;
+  cause = c.in_ok-chain.chain.cause;
+  chain = c.in_ok-chain.ensures;
+  is = c.in_ok-steps.ensures;
+}

@@ -1,10 +1,20 @@
-use Rattle.std.proofs.Common.{◌∙◌, List, ap, subst}
-use Rattle.state_core.specs.State.{state_of}
+use Rattle.std.proofs.Common.{◌∙◌, List, ap, subst, sym}
+use Rattle.state_core.specs.State.{State, state_of}
+use Rattle.ready_core.specs.Verdicts.{AreVerdicts}
 use Rattle.page_text.specs.Rows.{chosen_rows}
 use Rattle.page_text.specs.declared.rows.Row.{Row}
 use Rattle.page_text.specs.Table.{HasTable}
-use Rattle.page_text.proofs.TableRows.{table_had}
+use Rattle.page_text.proofs.TableRows.{chosen_there, table_had}
 use Rattle.page_text.proofs.list.list_page.Goals as goal
+
+pub add_table-requires-clause-judged : goal.add_table-requires-clause-judged
+add_table-requires-clause-judged c =
+    subst (λ (state : State). AreVerdicts c.args.gate.now state c.args.verdicts.now) (sym c.state-2.ensures) c.requires
+
+pub add_table-requires-clause-there : goal.add_table-requires-clause-there
+add_table-requires-clause-there c =
+    chosen_there c.state.result.now c.args.choice.now c.args.verdicts.now c.as_slice-rows.result.now
+    (c.as_slice-rows.ensures.value ∙ c.in_ok-chosen.ensures)
 
 pub returns : goal.returns
 returns c =

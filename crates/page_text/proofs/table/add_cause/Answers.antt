@@ -6,8 +6,8 @@ use Rattle.page_text.proofs.table.add_cause.Goals as goal
 
 pub returns-in-Dependency : goal.returns-in-Dependency
 returns-in-Dependency c =
-    cause_added c.args.state.now c.args.verdicts.now c.args.left c.cause_of.result _ c.args.cells.now c.add_left.new.page
-    c.in-Dependency.is c.cause_of.ensures c.add_left.ensures
+    cause_added c.args.state.now c.args.verdicts.now c.args.left _ c.args.cells.now c.add_end.new.cells
+    c.in-Dependency.is c.add_end.ensures
 
 pub returns-in-Own : goal.returns-in-Own
 returns-in-Own c =

@@ -1,5 +1,9 @@
-use Rattle.page_text.proofs.TableRows.{table_added}
+use Rattle.page_text.proofs.TableRows.{shown_there, table_added}
 use Rattle.page_text.proofs.table.add_table.Goals as goal
+
+pub add_rows-requires-clause-there : goal.add_rows-requires-clause-there
+add_rows-requires-clause-there c =
+    shown_there c.args.verdicts.now c.args.number c.args.rows.now c.rows_of.result.now c.rows_of.ensures c.requires.there
 
 pub returns : goal.returns
 returns c =
