@@ -3,7 +3,7 @@
 //! Its tests are in the crate `seal_tests`.
 //!
 //! It is a crate of its own so that `key_file`, which parses the text, needs no file system. Not taken: a check of the
-//! file by its name before it is opened, since the file could be replaced in between.
+//! owner by the file's name before it is opened, since the file could be replaced in between.
 //!
 //! An example of its use:
 //!
