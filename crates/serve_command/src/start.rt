@@ -6,10 +6,12 @@ ghost use Rattle.replica_core.specs.Starts.{IsUnused};
 
 use pull_guard::LAST_START;
 use replica_core::{Replica, latest_start};
-use std::time::{Clock, SystemTime};
+use std::thread;
+use std::time::{Clock, Duration, SystemTime};
 
 /// The start that a site runs under: the one that is named, from 1 to 4,294,967,294, unless the record has a stamp of
-/// the site under it or a later one; without a name the next one. `None` if every such start is used.
+/// the site under it or a later one; without a name the next one, once the second has passed that it was taken from.
+/// `None` if every such start is used.
 pub fn start_of<R: Clock>(rt: &R, named: Option<u32>, replica: &Replica, site: u16) -> Option<u32>
     ensures unused { IfSome result (λ start. IsUnused site start replica.now) }
     ensures may { IfSome result MayBegin }
@@ -36,14 +38,37 @@ fn next_start<R: Clock>(rt: &R, latest: u32) -> Option<u32>
     if start > LAST_START {
         return None;
     }
+    pass_second(rt, start);
     Some(start)
 }
 
 /// The seconds since 1970.
 fn seconds_of<R: Clock>(rt: &R) -> Option<u32> {
-    let since = SystemTime::now(rt)
+    let since = time_of(rt)?;
+    u32::try_from(since.as_secs()).ok()
+}
+
+/// The time since 1970.
+fn time_of<R: Clock>(rt: &R) -> Option<Duration> {
+    SystemTime::now(rt)
         .ok()?
         .duration_since(SystemTime::UNIX_EPOCH)
-        .ok()?;
-    u32::try_from(since.as_secs()).ok()
+        .ok()
+}
+
+/// Waits until the second has passed that a start was taken from. A site that begins later by an older copy of the
+/// journal file, which lacks what this one takes in, then has a greater start. It waits a second at most.
+fn pass_second<R: Clock>(rt: &R, start: u32) {
+    if let Some(left) = rest_of_second(rt, start) {
+        thread::sleep(rt, left);
+    }
+}
+
+/// How much is left of this second since 1970; none where the clock is at another one, or can't be read.
+fn rest_of_second<R: Clock>(rt: &R, second: u32) -> Option<Duration> {
+    let since = time_of(rt)?;
+    if since.as_secs() != u64::from(second) {
+        return None;
+    }
+    Duration::from_secs(u64::from(second) + 1).checked_sub(since)
 }
