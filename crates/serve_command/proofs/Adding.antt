@@ -1,5 +1,6 @@
 -- Operations that are gathered and added to a journal, some at a time.
 use Rattle.std.specs.Prelude.{◌≡◌, ◌<◌, ◌+◌, ℕ, Bool, true, false, ◌||◌, cond, List, [], ◌∷◌, ◌++◌, length, not, take, Option, None, Some, IfSome}
+use Rattle.std.specs.Prelude.{IfOk, IsSome, Result, Ok, Err}
 use Rattle.std.proofs.Common.{refl, sym, ap, ◌∙◌, subst, append_assoc, append-nil, get_or}
 use Rattle.std.proofs.lemmas.List.{take_more}
 use Rattle.std.proofs.lemmas.List.Elements.{filter-append}
@@ -21,6 +22,7 @@ added_more old mid new gathered left more rest first second = (
       ∙ ap (λ ops. ops ++ more) first.1,
   λ before holds. subst (IsHolding new) (append_assoc before first.0 second.0)
       (second.2 (before ++ first.0) (first.2 before holds)),
+  λ known. second.3 (first.3 known),
 )
 
 pub added_rest : (old mid new : Book) (gathered left rest : List Operation) → IsAdded old gathered mid left
@@ -94,6 +96,17 @@ opened_says (Some i) (Some j) own torn changes = (
   (changes.0, changes.1.left),
   λ op. ap (λ l. has l op) changes.1.taken ∙ has-all_arrived [] changes.1.ops op,
 )
+
+-- what is known of a tape is known of the journal that was opened on it, and of what came of that
+pub opened_known : {B E : Type 0} (old new : Option Image) (own : List Operation) (torn : ℕ) (result : Result (Book × B) E)
+    → Changes old new (λ i j. IsSettled j × IsOpened i.contents own torn j.contents)
+    → IfOk result (λ begun. IsSome new → IsSome begun.0.image)
+    → IfOk result (λ begun. IsSome old → IsSome begun.0.image)
+opened_known None None own torn (Ok begun) opened known = known
+opened_known None (Some j) own torn (Ok begun) opened known = absurd opened
+opened_known (Some i) None own torn (Ok begun) opened known = absurd opened
+opened_known (Some i) (Some j) own torn (Ok begun) opened known = known
+opened_known old new own torn (Err fault) opened known = tt
 
 -- the record with what was loaded is what the journal says then
 pub both_kept : (own ops loaded begun : List Operation) → IsSameSet own ops → IsSameSet begun (own ++ loaded)

@@ -1,5 +1,5 @@
 -- What a site begins with: the record that is loaded, and that of its journal.
-use Rattle.std.specs.Prelude.{◌≡◌, ◌⊎◌, ◌<◌, ℕ, List, [], ◌∷◌, ◌++◌, Option, None, Some, IfSome, filter, not}
+use Rattle.std.specs.Prelude.{◌≡◌, ◌⊎◌, ◌<◌, ℕ, List, [], ◌∷◌, ◌++◌, Option, None, Some, IfSome, IsSome, filter, not}
 use Rattle.byte_ends.specs.Lines.{lines_of}
 use Rattle.console.specs.Console.{ConsoleState}
 use Rattle.console.specs.Inputs.{AreHad, Input, IsFirstRefused, IsHad, gate_file, input, snapshot_file}
@@ -91,8 +91,9 @@ IsOfSite ended = ⊥
 abbrev pub lacking_of : List Operation → List Operation → List Operation
 lacking_of own loaded = filter (λ op. not (has own op)) loaded
 
--- of what was gathered a journal got all but what is left
+-- of what was gathered a journal got all but what is left; and what it has is known where it was known before
 abbrev pub IsAdded : Book → List Operation → Book → List Operation → Type 0
 IsAdded old gathered new left =
     (added : List Operation) × (added ++ left ≡ gathered)
     × ((before : List Operation) → IsHolding old before → IsHolding new (before ++ added))
+    × (IsSome old.image → IsSome new.image)

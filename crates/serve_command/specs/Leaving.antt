@@ -1,5 +1,5 @@
 -- What a site of the program leaves: what keeps its operations, the record that it had, and what was saved.
-use Rattle.std.specs.Prelude.{◌≡◌, ◌⊎◌, ◌++◌, List, Option, None, Some, Result, Ok, Err, IfSome}
+use Rattle.std.specs.Prelude.{◌≡◌, ◌⊎◌, ◌++◌, List, Option, None, Some, Result, Ok, Err, IfSome, IsSome}
 use Rattle.replica_core.specs.Journal.{all_arrived}
 use Rattle.replica_core.specs.Sets.{IsSameSet}
 use Rattle.review_ops.specs.Operation.{Operation}
@@ -47,8 +47,8 @@ EndsBy (Err fault) ended = ended ≡ Err (Site fault)
 
 -- ---- a site with a journal
 
--- it began with what its tape said and what was loaded; all that it began with and published survives; and it left just
--- that
+-- it began with what its tape said and what was loaded; all that it began with and published survives, in what is still
+-- known of its tape where something was; and it left just that
 pub record HasRun (known : Option Image) (loaded : List Operation) (journal : Book) (left : Option (List Operation)) : Type 0 where
   pub begun : List Operation
   pub whole : IfSome known (λ i. IsRecordBegun i.contents loaded begun)
@@ -57,4 +57,5 @@ pub record HasRun (known : Option Image) (loaded : List Operation) (journal : Bo
   pub same : IsSameSet begun first
   pub more : List Operation
   pub kept : Survive journal (first ++ more)
+  pub still_known : IsSome known → IsSome journal.image
   pub leaves : IfSome left (λ ops. ops ≡ all_arrived begun more)

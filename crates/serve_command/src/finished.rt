@@ -25,6 +25,7 @@ pub struct Finished<K> {
 /// The result of a site that couldn't be run.
 pub fn unrun<K: Keeps>(keeper: K, ended: Ended<'static>) -> Finished<K>
     ensures kept { (begun : List Operation) → LeavesKept K.survives (K.holds keeper) begun result.keeper result.left }
+    ensures known { K.is_known keeper → K.is_known result.keeper }
     ensures left { result.left ≡ None }
     ensures ended { result.ended ≡ Err ended.entry }
 {

@@ -1,6 +1,6 @@
 //! Begins the record of a site with a journal.
 
-ghost use Rattle.std.specs.Prelude.{◌≡◌, ◌++◌, ◌∷◌, [], IfErr, IfOk, IfSome, List, OnOk};
+ghost use Rattle.std.specs.Prelude.{◌≡◌, ◌++◌, ◌∷◌, [], IfErr, IfOk, IfSome, IsSome, List, OnOk};
 ghost use Rattle.console.specs.Showing.{error_output};
 ghost use Rattle.replica_core.specs.Sets.{IsSameSet};
 ghost use Rattle.review_ops.specs.Operation.{Operation};
@@ -38,6 +38,7 @@ pub fn begin<B: Batches, T: Tape + Drop, E: Drain>(
 ) -> Result<(Journal<T>, Replica), Ended<'static>>
     requires { IsAtStart (T.image tape) (T.left tape) }
     ensures kept { IfOk result (λ begun. (ops : List Operation) × IsHolding begun.0 ops × IsSameSet begun.1 ops) }
+    ensures known { IfOk result (λ begun. IsSome (T.image tape) → IsSome begun.0.image) }
     ensures whole { IfOk result (λ begun. IfSome (T.image tape) (λ i. IsRecordBegun i.contents loaded begun.1)) }
     ensures survivors { IfOk result (λ begun. IfSome (T.image tape) (λ i. HasSurvivors i.contents begun.1)) }
     ensures torn { OnOk result (IfSome (T.image tape) (λ i. SaysTornOf
@@ -58,6 +59,7 @@ fn open_and_add<B: Batches, T: Tape + Drop, E: Drain>(
 ) -> Result<(Journal<T>, Replica), Ended<'static>>
     requires { IsAtStart (T.image tape) (T.left tape) }
     ensures kept { IfOk result (λ begun. (ops : List Operation) × IsHolding begun.0 ops × IsSameSet begun.1 ops) }
+    ensures known { IfOk result (λ begun. IsSome (T.image tape) → IsSome begun.0.image) }
     ensures whole { IfOk result (λ begun. IfSome (T.image tape) (λ i. IsRecordBegun i.contents loaded begun.1)) }
     ensures torn { OnOk result (IfSome (T.image tape) (λ i. SaysTornOf
         (λ output. error_output (E.taken output) (E.failed output)) i.contents errors.old errors.new)) }
@@ -81,6 +83,7 @@ fn add_loaded<T: Tape + Drop>(
 ) -> Result<(Journal<T>, Replica), Ended<'static>>
     ensures kept { (before : List Operation) → IsHolding journal before
         → IfOk result (λ begun. IsHolding begun.0 (before ++ lacking_of replica loaded)) }
+    ensures known { IfOk result (λ begun. IsSome journal.image → IsSome begun.0.image) }
     ensures both { IfOk result (λ begun. IsSameSet begun.1 (replica ++ loaded)) }
     ensures site { IfErr result IsOfSite }
 {

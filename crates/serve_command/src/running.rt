@@ -1,6 +1,6 @@
 //! Runs a site over its keeper, and saves its snapshot.
 
-ghost use Rattle.std.specs.Prelude.{◌≡◌, IfErr, IfOk, IfSome, List, OnErr, OnOk, option_map};
+ghost use Rattle.std.specs.Prelude.{◌≡◌, IfErr, IfOk, IfSome, IsSome, List, OnErr, OnOk, option_map};
 ghost use Rattle.console.specs.Showing.{error_output};
 ghost use Rattle.replica_core.specs.Sets.{IsSameSet};
 ghost use Rattle.review_ops.specs.Operation.{Operation};
@@ -40,7 +40,8 @@ use std::time::Clock;
 
 /// Runs a site with a journal on a tape that was just opened, and saves what it has left. It begins with what the journal
 /// says and what was loaded, as `begin` does; and whatever a crash leaves of the journal that is given back says all
-/// that it began with and published. Refused where the journal isn't opened; then nothing is run or saved.
+/// that it began with and published, and what that is is known where it was known of the tape. Refused where the journal
+/// isn't opened; then nothing is run or saved.
 pub fn run_with_journal<R, I, N, E, L, S, T>(
     rt: R,
     alloc: Global,
@@ -87,6 +88,7 @@ fn begin_on_tape<'a, R: Threads + Drop, T: Tape + Drop, E: Drain>(
     requires { IsAtStart (T.image tape) (T.left tape) }
     ensures kept { IfOk result
         (λ begun. (ops : List Operation) × IsHolding begun.0 ops × IsSameSet begun.1.replica ops) }
+    ensures known { IfOk result (λ begun. IsSome (T.image tape) → IsSome begun.0.image) }
     ensures whole { IfOk result
         (λ begun. IfSome (T.image tape) (λ i. IsRecordBegun i.contents site.entry.replica begun.1.replica)) }
     ensures survivors { IfOk result
@@ -137,6 +139,7 @@ where
     K: Keeps,
     requires { (first : List Operation) × K.holds keeper first }
     ensures kept { LeavesKept K.survives (K.holds keeper) site.entry.replica result.keeper result.left }
+    ensures known { K.is_known keeper → K.is_known result.keeper }
     ensures saved { HasSaved S.saves snapshot_file.old result.left result.ended snapshot_file.new }
 {
     match prepare(rt, alloc, site, streams) {
@@ -165,6 +168,7 @@ where
     K: Keeps,
     requires { (first : List Operation) × K.holds keeper first }
     ensures kept { LeavesKept K.survives (K.holds keeper) prepared.entry.opened.site.replica result.keeper result.left }
+    ensures known { K.is_known keeper → K.is_known result.keeper }
     ensures saved { HasSaved S.saves snapshot_file.old result.left result.ended snapshot_file.new }
 {
     let Prepared {
