@@ -1,5 +1,7 @@
 -- What survived a crash is in the record that a site begins with.
-use Rattle.std.proofs.Common.{◌≡◌, ◌++◌, ℕ, List, [], Option, None, Some, Result, Ok, Err, IfOk, IfSome, inl, inr, ap, subst, sym, ◌∙◌}
+use Rattle.std.proofs.Common.{◌≡◌, ◌++◌, ℕ, List, [], Option, None, Some, Result, Ok, Err, IfOk, IfSome, inl, inr, ap, refl, subst, sym, ◌∙◌}
+use Rattle.std.proofs.lemmas.Bool.{false≢true}
+use Rattle.std.specs.Prelude.{IsSome}
 use Rattle.replica_core.specs.Journal.{all_arrived, has}
 use Rattle.replica_core.specs.JournalLaws.{IsPartOf, IsSameSet-append, has-all_arrived, has-append_left, kept-all_arrived}
 use Rattle.review_ops.specs.Operation.{Operation}
@@ -52,19 +54,24 @@ all_again begun first more again b op h =
     b.survivors b.book b.image (first ++ more) b.known b.left b.kept op
     (sym (IsSameSet-append begun first more b.same op) ∙ sym (has-all_arrived begun more op) ∙ h)
 
+known_image : (image : Option Image) → IsSome image → (i : Image) × (image ≡ Some i)
+known_image None known = absurd (false≢true known)
+known_image (Some i) known = (i, refl)
+
 -- a site that runs again begins again
 begins_again : (left begun : List Operation) (later : Option (List Operation)) (r : RunsAgain left begun later)
     → BeginsAgain r.ran.begun r.ran.first r.ran.more r.runs.begun
-begins_again left begun later r = record {
-  same = r.ran.same;
-  book = r.journal;
-  kept = r.ran.kept;
-  image = r.image;
-  known = r.known;
-  text = r.reopened.contents;
-  left = r.crashed;
-  survivors = r.runs.survivors;
-}
+begins_again left begun later r =
+    let image = known_image r.journal.image (r.ran.still_known r.known) in record {
+      same = r.ran.same;
+      book = r.journal;
+      kept = r.ran.kept;
+      image = image.0;
+      known = image.1;
+      text = r.reopened.contents;
+      left = subst (λ known. IfSome known (λ i. IsLeftBy i r.reopened.contents)) image.1 r.crashed;
+      survivors = r.runs.survivors;
+    }
 
 -- what was left comes back, and stays
 left_begun : (left begun : List Operation) (later : Option (List Operation)) → RunsAgain left begun later
