@@ -40,7 +40,7 @@ class Account:
 
     def voter(self) -> str | None:
         """How the record names it."""
-        return self.username or self.email
+        return self.username or (f"<{self.email}>" if self.email else None)
 
     def attribute(self) -> dict:
         return present(name=self.name, email=self.email, username=self.username)

@@ -881,8 +881,10 @@ def number_in(value, low: int = 1, high: int = TOP_U32) -> int | None:
 
 
 def user_in(account) -> bytes | None:
-    names = [name for name in (under(account, "username"), under(account, "email")) if isinstance(name, str)]
-    return names[0].encode() if names else None
+    username, email = under(account, "username"), under(account, "email")
+    if isinstance(username, str):
+        return username.encode()
+    return f"<{email}>".encode() if isinstance(email, str) else None
 
 
 class Event:

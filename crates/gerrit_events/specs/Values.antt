@@ -1,5 +1,5 @@
 -- What the values of Gerrit's JSON say ("JSON Data"). A number may also be written as a text.
-use Rattle.std.specs.Prelude.{ℕ, ℤ, pos, negsuc, int_le, List, [], ◌∷◌, length, Bool, ◌&&◌, nat_lt, if◌then◌else◌}
+use Rattle.std.specs.Prelude.{ℕ, ℤ, pos, negsuc, int_le, List, [], ◌∷◌, ◌++◌, length, Bool, ◌&&◌, nat_lt, if◌then◌else◌}
 use Rattle.std.specs.Prelude.{Option, Some, None, option_and_then, option_map, codes}
 use Rattle.std.specs.Option.{option_or}
 use Rattle.std.specs.Str.{all_ascii_digits}
@@ -71,6 +71,12 @@ vote_value found = whole_within (negsuc 127) (pos 127) found
 
 -- ---- accounts
 
--- the username of an account, or its email where it has no username
+-- an email in angle brackets, so that it is no username: Gerrit's begin with a letter or a digit
+abbrev pub email_voter : List ℕ → List ℕ
+email_voter email = codes "<" ++ email ++ codes ">"
+
+-- the username of an account, or the voter of its email where it has no username
 abbrev pub user_in : Option Data → Option (List ℕ)
-user_in account = option_or (text_in (under (codes "username") account)) (text_in (under (codes "email") account))
+user_in account =
+    option_or (text_in (under (codes "username") account))
+    (option_map email_voter (text_in (under (codes "email") account)))

@@ -340,10 +340,10 @@ impl<'k, 'v, 'a> Event<'k, 'v, 'a> {
         let Some(label) = text_in(member(approval, "type")) else {
             return Ok(Claim::bad(EventKey::TypeName));
         };
-        let Some(voter) = user_in(self.line.account_part(approval)) else {
+        let Some(voter) = user_in(self.alloc, self.line.account_part(approval))? else {
             return Ok(Claim::bad(self.line.kind.account_key()));
         };
-        if voter == RESERVED_VOTER {
+        if voter.as_str() == RESERVED_VOTER {
             return Ok(Claim::bad(EventKey::Username));
         }
         let is_taken_back = self.is_taken_back(approval);
@@ -460,7 +460,8 @@ impl<'k, 'v, 'a> Event<'k, 'v, 'a> {
         let mut ballots = Vec::new(self.alloc);
         let marks = self.line.marks(self.alloc)?;
         for mark in marks {
-            ballots.push(ballot(self.alloc, mark.label(), RESERVED_VOTER)?)?;
+            let voter = String::from_str(self.alloc, RESERVED_VOTER)?;
+            ballots.push(ballot(self.alloc, mark.label(), voter)?)?;
         }
         Ok(ballots)
     }
@@ -488,10 +489,10 @@ fn ballot_of(alloc: Global, approval: &Value<'_>) -> Result<Option<Ballot>, NoMe
     let Some(label) = text_in(member(approval, "type")) else {
         return Ok(None);
     };
-    let Some(voter) = user_in(member(approval, "by")) else {
+    let Some(voter) = user_in(alloc, member(approval, "by"))? else {
         return Ok(None);
     };
-    if voter == RESERVED_VOTER {
+    if voter.as_str() == RESERVED_VOTER {
         return Ok(None);
     }
     let mut ballot = ballot(alloc, label, voter)?;
@@ -500,12 +501,12 @@ fn ballot_of(alloc: Global, approval: &Value<'_>) -> Result<Option<Ballot>, NoMe
 }
 
 /// The ballot of a voter on a label.
-fn ballot(alloc: Global, label: &str, voter: &str) -> Result<Ballot, NoMemory>
-    ensures { IfOk result (λ ballot. ballot_shown ballot ≡ record { label = label.now; voter = voter.now }) }
+fn ballot(alloc: Global, label: &str, voter: String) -> Result<Ballot, NoMemory>
+    ensures { IfOk result (λ ballot. ballot_shown ballot ≡ record { label = label.now; voter = string_bytes voter }) }
 {
     Ok(Ballot {
         label: String::from_str(alloc, label)?,
-        voter: String::from_str(alloc, voter)?,
+        voter,
     })
 }
 
@@ -556,15 +557,14 @@ fn vote_of(
     change: u32,
     set: u32,
     label: &str,
-    voter: &str,
+    voter: String,
     is_taken_back: bool,
     value: Option<&Value<'_>>,
 ) -> Result<Claim, NoMemory>
-    ensures { IfOk result (λ claim. claim ≡ vote_of change set label.now voter.now is_taken_back
+    ensures { IfOk result (λ claim. claim ≡ vote_of change set label.now (string_bytes voter) is_taken_back
         (value_under (option_map (λ value. data_in value.now) value.entry))) }
 {
     let label = String::from_str(alloc, label)?;
-    let voter = String::from_str(alloc, voter)?;
     let Some(value) = value else {
         return Ok(unvoted(is_taken_back, change, set, label, voter));
     };

@@ -1,6 +1,7 @@
 //! What values of Gerrit's JSON say.
 
-ghost use Rattle.std.specs.Prelude.{◌≡◌, [], ℤ, FitsSigned, map, option_and_then, option_map};
+ghost use Rattle.std.specs.Prelude.{◌≡◌, [], ℤ, FitsSigned, IfOk, map, option_and_then, option_map};
+ghost use Rattle.std.specs.Prelude.{string_bytes};
 ghost use Rattle.std.specs.Int.{w64};
 ghost use Rattle.gerrit_events.specs.Trees.{data_in};
 ghost use Rattle.gerrit_events.specs.Values.{under, text_in, listed_values, alone_or_items, whole_in, whole_within};
@@ -9,6 +10,7 @@ ghost use Rattle.gerrit_events.specs.Values.{number_value, vote_value, user_in};
 
 use super::tree::{items, member, text, whole};
 use json::Value;
+use std::alloc::{AllocError, Global};
 use std::slice;
 
 /// What has this key, where it is an object that has it.
@@ -93,13 +95,18 @@ pub fn value_in(found: Option<&Value<'_>>) -> Option<i8>
     Some(whole as i8)
 }
 
-/// The name of an account: its username, or else its email.
-pub fn user_in<'a>(account: Option<&Value<'a>>) -> Option<&'a str>
-    ensures { option_map (λ text. text.now) result
-        ≡ user_in (option_map (λ value. data_in value.now) account.entry) }
+/// The voter that an account is: its username, or else its email in angle brackets.
+pub fn user_in(alloc: Global, account: Option<&Value<'_>>) -> Result<Option<String>, AllocError>
+    ensures { IfOk result (λ user. option_map string_bytes user
+        ≡ user_in (option_map (λ value. data_in value.now) account.entry)) }
 {
-    match text_in(under("username", account)) {
-        Some(name) => Some(name),
-        None => text_in(under("email", account)),
+    if let Some(name) = text_in(under("username", account)) {
+        let user = String::from_str(alloc, name)?;
+        return Ok(Some(user));
     }
+    let Some(email) = text_in(under("email", account)) else {
+        return Ok(None);
+    };
+    let user = format!(in alloc; "<{email}>")?;
+    Ok(Some(user))
 }

@@ -184,7 +184,7 @@ const APPROVALS: &[Row] = &[
         lines: &[
             r#"{"type":"vote-deleted","change":{"number":7},"patchSet":{"number":3},"reviewer":{"email":"bob@example.org"},"remover":{"username":"ann"},"approvals":[{"type":"Code-Review","value":"0","oldValue":"-2"},{"type":"Workflow","value":"1"}]}"#,
         ],
-        found: "{\"change\":7,\"label\":\"code-review\",\"op\":\"withdraw\",\"set\":3,\"voter\":\"bob@example.org\"}\n{\"change\":7,\"label\":\"workflow\",\"op\":\"vote\",\"set\":3,\"value\":1,\"voter\":\"bob@example.org\"}\n",
+        found: "{\"change\":7,\"label\":\"code-review\",\"op\":\"withdraw\",\"set\":3,\"voter\":\"<bob@example.org>\"}\n{\"change\":7,\"label\":\"workflow\",\"op\":\"vote\",\"set\":3,\"value\":1,\"voter\":\"<bob@example.org>\"}\n",
     },
     Row {
         lines: &[
@@ -279,7 +279,7 @@ const QUERIES: &[Row] = &[
             CREATED,
             r#"{"number":101,"commitMessage":"m","status":"NEW","currentPatchSet":{"number":2,"revision":"a2","approvals":[{"type":"Verified","value":"1","by":{"username":"zuul"}}]},"patchSets":[{"number":1,"approvals":[{"type":"Verified","value":"-1","by":{"email":"z@example.org"}}]},{"number":2,"approvals":[{"type":"Verified","value":"1","by":{"username":"zuul"}}]}],"dependsOn":[{"number":"99"},{"number":98}]}"#,
         ],
-        found: "{\"change\":101,\"message\":\"m\",\"op\":\"patchset\",\"parent\":99,\"set\":2}\n! BadEvent dependsOn\n= 101,2 verified/zuul\n{\"change\":101,\"label\":\"verified\",\"op\":\"vote\",\"set\":2,\"value\":1,\"voter\":\"zuul\"}\n= 101,1 verified/z@example.org\n{\"change\":101,\"label\":\"verified\",\"op\":\"vote\",\"set\":1,\"value\":-1,\"voter\":\"z@example.org\"}\n{\"change\":101,\"op\":\"restore\"}\n",
+        found: "{\"change\":101,\"message\":\"m\",\"op\":\"patchset\",\"parent\":99,\"set\":2}\n! BadEvent dependsOn\n= 101,2 verified/zuul\n{\"change\":101,\"label\":\"verified\",\"op\":\"vote\",\"set\":2,\"value\":1,\"voter\":\"zuul\"}\n= 101,1 verified/<z@example.org>\n{\"change\":101,\"label\":\"verified\",\"op\":\"vote\",\"set\":1,\"value\":-1,\"voter\":\"<z@example.org>\"}\n{\"change\":101,\"op\":\"restore\"}\n",
     },
     Row {
         lines: &[r#"{"number":5,"status":"MERGED","currentPatchSet":{"number":1}}"#],
