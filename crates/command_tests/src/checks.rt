@@ -208,7 +208,7 @@ const MESSAGES: [(&str, &str, &str); 7] = [
     (
         "m",
         OTHER,
-        "warning 5 UnusedBase /bases/0 \"https://r/\"\nwarning 5 UnusedBase /bases/1 \"http://s/\"\nend 0 2\n",
+        "warning 5 UnusedBase /bases/0 \"https://r/\"\nwarning 5 UnusedBase /bases/1 \"http://s/\"\nwarning 7 IgnoredFooter /bases \"http://s/x\"\nwarning 7 IgnoredFooter /bases \"https://r/g/c/p/+/7\"\nend 0 4\n",
     ),
     (
         USED,
@@ -225,6 +225,42 @@ fn bases_are_looked_for_in_a_record(rt: HostRuntime) {
     for (first, second, lines) in MESSAGES {
         assert_bases(&rt, rt.alloc(), first, second, lines);
     }
+}
+
+/// Messages with footers that begin with a base, of which the last one of the first names a change.
+const MISSES: &str = "Fix\\n\\nDepends-On: https://r/101 (first half)\\nDepends-On: https://r/102?tab=comments\\nDepends-On: https://r/103/2/src/a.c\\nDepends-On: HTTPS://R/104\\nDepends-On: https://r/105";
+
+const AGAIN: &str = "Depends-On: https://r/102?tab=comments\\ndepends-on:http://s/\\nDepends-On: https://t/1 x\\nSee https://r/9 x";
+
+#[test]
+fn footers_that_name_no_change_are_named(rt: HostRuntime) {
+    let lines = r#"warning 5 UnusedBase /bases/1 "http://s/"
+warning 7 IgnoredFooter /bases "HTTPS://R/104"
+warning 7 IgnoredFooter /bases "http://s/"
+warning 7 IgnoredFooter /bases "https://r/101 (first half)"
+warning 7 IgnoredFooter /bases "https://r/102?tab=comments"
+warning 7 IgnoredFooter /bases "https://r/103/2/src/a.c"
+end 0 6
+"#;
+    assert_bases(&rt, rt.alloc(), MISSES, AGAIN, lines);
+}
+
+/// A record of a change whose first message has such a footer, and whose second has none.
+const OLDER: &str = r#"reviewgate 2
+{"change":101,"message":"Depends-On: https://r/7#x","op":"patchset","seq":1,"set":1,"site":1,"start":1,"time":1}
+{"change":101,"message":"m","op":"patchset","seq":2,"set":2,"site":1,"start":1,"time":2}
+end 2
+"#;
+
+#[test]
+fn footers_of_older_patch_sets_are_named(rt: HostRuntime) {
+    let gate = r#"{"bases":["https://r/"]}"#;
+    let lines = r#"warning 5 UnusedBase /bases/0 "https://r/"
+warning 7 IgnoredFooter /bases "https://r/7#x"
+end 0 2
+"#;
+    let words = ["check", "gate", "-"];
+    assert_prints(&rt, rt.alloc(), words.as_slice(), gate, OLDER, 0, lines, "");
 }
 
 #[test]

@@ -89,6 +89,21 @@ end 1
 }
 
 #[test]
+fn an_ignored_footer_is_one_object(rt: HostRuntime) {
+    let gate = r#"{"bases":["https://r/"]}"#;
+    let record = r#"reviewgate 2
+{"change":101,"message":"Depends-On: https://r/1 \"a\"\nDepends-On: https://r/2","op":"patchset","seq":1,"set":1,"site":1,"start":1,"time":1}
+end 1
+"#;
+    let line =
+        r#"{"conditions":[],"warnings":[{"number":7,"name":"IgnoredFooter","place":"/bases","about":"https://r/1 \"a\""}]}
+"#;
+    let words = ["check", "--json", "gate", "-"];
+    let alloc = rt.alloc();
+    assert_prints(&rt, alloc, words.as_slice(), gate, record, 0, line, "");
+}
+
+#[test]
 fn footers_are_one_object(rt: HostRuntime) {
     let alloc = rt.alloc();
     let message = "Fix\n\nDepends-On: https://r/12\nDepends-On: https://r/9\nDepends-On: \"x\"\n";

@@ -1,15 +1,18 @@
--- What a record shows of a gate: its labels and voters, and which bases no footer of it has.
-use Rattle.std.specs.Prelude.{◌≡◌, List, Bool, MatchBool, Option, None, Some, option_map}
+-- What a record shows of a gate: its labels and voters, which bases no footer of it has, and which footers name no change
+-- although they begin with a base.
+use Rattle.std.specs.Prelude.{◌≡◌, ℕ, List, Bool, MatchBool, Option, None, Some, option_map}
 use Rattle.std.specs.List.{AllZip}
 use Rattle.gate_rules.specs.Rules.{GateRules}
 use Rattle.state_core.specs.State.{State}
+use Rattle.gate_check.specs.Ignored.{AreIgnored}
 use Rattle.gate_check.specs.Names.{KnownNames, names_in}
 use Rattle.gate_check.specs.Unused.{IsUnusedBase, messages_in}
 
--- the names, and of each base, in the order of the gate file, whether it is unused
+-- the names; of each base, in the order of the gate file, whether it is unused; and the values of ignored footers
 pub record Evidence : Type 0 where
   pub names : KnownNames
   pub unused : List Bool
+  pub ignored : List (List ℕ)
 
 pub record IsEvidence (gate : GateRules) (state : State) (evidence : Evidence) : Type 0 where
   pub names : evidence.names ≡ names_in state
@@ -17,6 +20,7 @@ pub record IsEvidence (gate : GateRules) (state : State) (evidence : Evidence) :
       (λ base is_so. MatchBool is_so
       (IsUnusedBase gate.bases (messages_in state) base) (¬ IsUnusedBase gate.bases (messages_in state) base))
       gate.bases evidence.unused
+  pub ignored : AreIgnored gate.bases (messages_in state) evidence.ignored
 
 -- the same with a record or without one
 abbrev pub IsEvidenceIfAny : GateRules → Option State → Option Evidence → Type 0

@@ -4,6 +4,8 @@ pub mod Names
 pub mod Nearest
 pub mod Near
 pub mod Unused
+pub mod Ignored
+pub mod Gained
 pub mod Evidence
 pub mod Shown
 pub mod Warnings

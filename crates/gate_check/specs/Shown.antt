@@ -12,4 +12,8 @@ names_shown names = record {
 }
 
 abbrev pub evidence_shown : held.Evidence → Evidence
-evidence_shown evidence = record { names = names_shown evidence.names; unused = evidence.unused.items }
+evidence_shown evidence = record {
+  names = names_shown evidence.names;
+  unused = evidence.unused.items;
+  ignored = map string_bytes evidence.ignored.keys;
+}

@@ -1,7 +1,7 @@
 -- What looks mistaken in a gate: warnings, each with its number and name, the place of the condition, what it is about,
 -- and the nearest name that there is.
 use Rattle.std.specs.Prelude.{ℕ, List, [], ◌∷◌, ◌++◌, Bool, not, ◌&&◌, Option, None, Some, codes}
-use Rattle.std.specs.Prelude.{decimal, flat_map, if◌then◌else◌, length, nat_eq, nat_le, slice_get}
+use Rattle.std.specs.Prelude.{decimal, flat_map, if◌then◌else◌, length, map, nat_eq, nat_le, slice_get}
 use Rattle.std.specs.Char.{is_ascii_graphic}
 use Rattle.std.specs.List.{list_all}
 use Rattle.json.specs.Print.{quoted}
@@ -15,8 +15,8 @@ use Rattle.gate_check.specs.Evidence.{Evidence, names_shown_by}
 use Rattle.gate_check.specs.Names.{KnownNames, has_known}
 use Rattle.gate_check.specs.Nearest.{nearest}
 use Rattle.gate_check.specs.declared.warning.Warning.{Warning}
-use Rattle.gate_check.specs.declared.warning.Warning.TheVariants.{NeverMet, NoVoter, Pattern, UnknownLabel, UnknownVoter}
-use Rattle.gate_check.specs.declared.warning.Warning.TheVariants.{UnusedBase}
+use Rattle.gate_check.specs.declared.warning.Warning.TheVariants.{IgnoredFooter, NeverMet, NoVoter, Pattern}
+use Rattle.gate_check.specs.declared.warning.Warning.TheVariants.{UnknownLabel, UnknownVoter, UnusedBase}
 
 abbrev pub number_of : Warning → ℕ
 number_of Pattern = 1
@@ -25,6 +25,7 @@ number_of UnknownVoter = 3
 number_of NeverMet = 4
 number_of UnusedBase = 5
 number_of NoVoter = 6
+number_of IgnoredFooter = 7
 
 abbrev pub name_of : Warning → List ℕ
 name_of Pattern = codes "Pattern"
@@ -33,6 +34,7 @@ name_of UnknownVoter = codes "UnknownVoter"
 name_of NeverMet = codes "NeverMet"
 name_of UnusedBase = codes "UnusedBase"
 name_of NoVoter = codes "NoVoter"
+name_of IgnoredFooter = codes "IgnoredFooter"
 
 -- a warning: its kind, a place of the gate file, what it is about, where it is about something, and the nearest name
 -- that there is, where one is near enough
@@ -129,6 +131,16 @@ abbrev pub nobody_warnings : List ℕ → Option (List ℕ) → List Found
 nobody_warnings place None = []
 nobody_warnings place (Some voter) = warned (not (can_vote voter)) (about_text NoVoter place voter)
 
+-- ---- 7 IgnoredFooter: a footer of the record has this value, which begins with a base and yet names no change
+
+abbrev pub footer_warning : List ℕ → Found
+footer_warning value = about_text IgnoredFooter (codes "/bases") value
+
+-- of each such value, where a record is named
+abbrev pub footer_warnings : Option Evidence → List Found
+footer_warnings None = []
+footer_warnings (Some evidence) = map footer_warning evidence.ignored
+
 -- ---- the warnings of a gate
 
 -- of a username, whatever a record has
@@ -161,6 +173,7 @@ condition_warnings gate names =
     first_warnings gate ++ by_place (approval_warnings gate names Require) 0 gate.require.approvals
     ++ by_place (approval_warnings gate names Reject) 0 gate.reject.approvals
 
--- those of the conditions, and then those of the bases
+-- those of the conditions, then those of the bases, and then those of footers
 abbrev pub warnings_of : GateRules → Option Evidence → List Found
-warnings_of gate evidence = condition_warnings gate (names_shown_by evidence) ++ base_warnings gate evidence
+warnings_of gate evidence =
+    condition_warnings gate (names_shown_by evidence) ++ base_warnings gate evidence ++ footer_warnings evidence

@@ -26,12 +26,14 @@ pub struct Checked {
 }
 
 /// Checks a gate: a line for each of its conditions, with the side, the place in the gate file and what is asked, in
-/// the order in which items are judged by them; a line for each warning, in that order, those of bases last; and `end`
-/// with how many there are of both. Where the state of a record is given, labels, voters and bases are looked for
-/// there, and of a label or a voter that it lacks the nearest is named. The warnings are 1 `Pattern`, 2 `UnknownLabel`,
-/// 3 `UnknownVoter`, 4 `NeverMet`, 5 `UnusedBase` and 6 `NoVoter`. It costs O(b + p q + v log n + m) for b bytes of
-/// text, p values of patterns that are required, q patterns that are rejected, v votes of n labels and voters and m
-/// bytes of messages for each base, and for each unknown name O(c d) for its c characters and d of all names.
+/// the order in which items are judged by them; a line for each warning, in that order, then those of bases, and last
+/// those of footers, in byte order; and `end` with how many there are of both. Where the state of a record is given,
+/// labels, voters and bases are looked for there, of a label or a voter that it lacks the nearest is named, and its
+/// footers that begin with a base and yet name no change. The warnings are 1 `Pattern`, 2 `UnknownLabel`, 3
+/// `UnknownVoter`, 4 `NeverMet`, 5 `UnusedBase`, 6 `NoVoter` and 7 `IgnoredFooter`. It costs O(b + p q + v log n + m)
+/// for b bytes of text, p values of patterns that are required, q patterns that are rejected, v votes of n labels and
+/// voters and m bytes of messages for each base, for each unknown name O(c d) for its c characters and d of all names,
+/// and O(f log f) for the f footers that it names.
 pub fn check_gate(alloc: Global, gate: &Gate, state: Option<&State>) -> Result<Checked, NoMemory>
     ensures { IfOk result (λ check. IsCheck check_text gate.now (option_map (λ known. known.now) state.entry)
         (string_bytes check.text) check.warnings) }

@@ -1,21 +1,25 @@
 //! What a record shows of a gate.
 
-ghost use Rattle.std.specs.Prelude.{◌≡◌, IfOk};
+ghost use Rattle.std.specs.Prelude.{◌≡◌, IfOk, map, string_bytes};
 ghost use Rattle.gate_check.specs.Evidence.{IsEvidence};
 ghost use Rattle.gate_check.specs.Shown.{evidence_shown, names_shown};
 
+use super::ignored::ignored_values;
 use super::names::Names;
 use super::unused::unused_bases;
 use gate_rules::Gate;
 use lattice_core::NoMemory;
 use state_core::State;
 use std::alloc::Global;
+use std::collections::BTreeSet;
 
-/// What a record shows of a gate: its labels and voters, and of each base whether it is unused.
+/// What a record shows of a gate: its labels and voters, of each base whether it is unused, and the values of footers
+/// that begin with a base and yet name no change.
 #[derive(Drop)]
 pub struct Evidence {
     names: Names,
     unused: Vec<bool>,
+    ignored: BTreeSet<String>,
 }
 
 impl Evidence {
@@ -25,7 +29,12 @@ impl Evidence {
     {
         let names = Names::of(alloc, state)?;
         let unused = unused_bases(alloc, gate.bases(), state)?;
-        Ok(Evidence { names, unused })
+        let ignored = ignored_values(alloc, gate.bases(), state)?;
+        Ok(Evidence {
+            names,
+            unused,
+            ignored,
+        })
     }
 
     /// The labels and the voters.
@@ -40,5 +49,12 @@ impl Evidence {
         ensures { result.now ≡ (evidence_shown self.now).unused }
     {
         &self.unused
+    }
+
+    /// The values of footers that begin with a base and yet name no change, in byte order.
+    pub fn ignored(&self) -> &BTreeSet<String>
+        ensures { map string_bytes result.now.keys ≡ (evidence_shown self.now).ignored }
+    {
+        &self.ignored
     }
 }

@@ -1,12 +1,13 @@
 //! The warnings of a gate.
 
-ghost use Rattle.std.specs.Prelude.{◌≡◌, ◌++◌, IfOk, OnOk, flat_map, map, nat_eq, option_map, string_bytes};
+ghost use Rattle.std.specs.Prelude.{◌≡◌, ◌∷◌, ◌++◌, [], IfOk, OnOk, flat_map, map, nat_eq, option_map, string_bytes};
 ghost use Rattle.gate_rules.specs.Own.{some};
 ghost use Rattle.gate_check.specs.Asking.{by_place};
 ghost use Rattle.gate_check.specs.Evidence.{names_shown_by};
 ghost use Rattle.gate_check.specs.Shown.{evidence_shown, names_shown};
 ghost use Rattle.gate_check.specs.Warnings.{approval_warnings, base_place, base_warning, base_warnings};
-ghost use Rattle.gate_check.specs.Warnings.{can_vote, condition_warnings, first_warnings, is_sign, key_warnings};
+ghost use Rattle.gate_check.specs.Warnings.{can_vote, condition_warnings, first_warnings, footer_warning};
+ghost use Rattle.gate_check.specs.Warnings.{footer_warnings, is_sign, key_warnings};
 ghost use Rattle.gate_check.specs.Warnings.{label_warning, never_met, nobody_warnings, pattern_warnings, unknown_name};
 ghost use Rattle.gate_check.specs.Warnings.{unknown_warnings, username_warnings, voter_warnings, warnings_at};
 ghost use Rattle.gate_check.specs.Warnings.{warnings_of};
@@ -24,8 +25,8 @@ use review_ops::is_voter;
 use std::alloc::Global;
 use std::collections::BTreeSet;
 
-/// The warnings of a gate: condition by condition, and then those of its bases; where it is given what a record shows,
-/// of that, too.
+/// The warnings of a gate: condition by condition, then those of its bases, and then those of footers; where it is given
+/// what a record shows, of that, too.
 pub fn findings_of(
     alloc: Global,
     gate: &Gate,
@@ -37,6 +38,7 @@ pub fn findings_of(
     let mut found = Vec::new(alloc);
     add_conditions(alloc, gate, names_in(evidence), &mut found)?;
     add_unused(alloc, gate, evidence, &mut found)?;
+    add_ignored(alloc, evidence, &mut found)?;
     Ok(found)
 }
 
@@ -394,6 +396,45 @@ fn add_base(
         let place = base_place(alloc, place)?;
         found.push(Finding::new(alloc, Warning::UnusedBase, place.as_str(), base, None)?)?;
     }
+    Ok(())
+}
+
+/// Adds those of footers, where it is given what a record shows.
+fn add_ignored(
+    alloc: Global,
+    evidence: &Option<Evidence>,
+    found: &mut Vec<Finding>,
+) -> Result<(), NoMemory>
+    ensures { OnOk result (found.new.items ≡ found.old.items
+        ++ footer_warnings (option_map evidence_shown evidence.now)) }
+{
+    let Some(evidence) = evidence else {
+        return Ok(());
+    };
+    add_footers(alloc, evidence.ignored(), found)
+}
+
+/// Adds that footers with these values are ignored.
+fn add_footers(
+    alloc: Global,
+    values: &BTreeSet<String>,
+    found: &mut Vec<Finding>,
+) -> Result<(), NoMemory>
+    ensures { OnOk result (found.new.items
+        ≡ found.old.items ++ map footer_warning (map string_bytes values.now.keys)) }
+{
+    for value in values {
+        add_footer(alloc, value.as_str(), found)?;
+    }
+    Ok(())
+}
+
+/// Adds that a footer with this value is ignored.
+fn add_footer(alloc: Global, value: &str, found: &mut Vec<Finding>) -> Result<(), NoMemory>
+    ensures { OnOk result (found.new.items ≡ found.old.items ++ footer_warning value.now ∷ []) }
+{
+    let warning = Warning::IgnoredFooter;
+    found.push(Finding::new(alloc, warning, "/bases", Some(value), None)?)?;
     Ok(())
 }
 

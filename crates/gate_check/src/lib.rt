@@ -19,6 +19,7 @@ mod checking;
 mod evidence;
 mod finding;
 mod found;
+mod ignored;
 mod laws;
 mod meeting;
 mod names;

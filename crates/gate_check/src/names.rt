@@ -86,7 +86,7 @@ impl Names {
 }
 
 /// Adds a text to a set.
-fn add(alloc: Global, texts: &mut BTreeSet<String>, text: &str) -> Result<(), NoMemory>
+pub fn add(alloc: Global, texts: &mut BTreeSet<String>, text: &str) -> Result<(), NoMemory>
     ensures { OnOk result (map string_bytes texts.new.keys
         ≡ insert_key (slice_cmp nat_cmp) (map string_bytes texts.old.keys) text.now) }
 {

@@ -18,6 +18,8 @@ pub enum Warning {
     UnusedBase,
     /// Nobody can have the username.
     NoVoter,
+    /// A footer of the record begins with a base and yet names no change.
+    IgnoredFooter,
 }
 
 impl Warning {
@@ -32,6 +34,7 @@ impl Warning {
             Warning::NeverMet => 4,
             Warning::UnusedBase => 5,
             Warning::NoVoter => 6,
+            Warning::IgnoredFooter => 7,
         }
     }
 
@@ -46,6 +49,7 @@ impl Warning {
             Warning::NeverMet => "NeverMet",
             Warning::UnusedBase => "UnusedBase",
             Warning::NoVoter => "NoVoter",
+            Warning::IgnoredFooter => "IgnoredFooter",
         }
     }
 }
