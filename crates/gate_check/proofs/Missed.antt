@@ -3,6 +3,7 @@ use Rattle.std.proofs.Common.{◌≡◌, ◌⊎◌, ◌↔◌, ◌∙◌, inl, i
 use Rattle.std.proofs.Common.{ap, arith, drop, get_or, length, map, refl, string_bytes, subst, sym, take}
 use Rattle.std.specs.Prelude.{Contains, MatchBool, String, slice_get, unwrap_or}
 use Rattle.std.specs.BTreeSet.{BTreeSet, insert_key}
+use Rattle.std.specs.Char.{to_ascii_lowercase}
 use Rattle.std.specs.Cmp.Lexicographic.{slice_cmp}
 use Rattle.std.specs.FinMap.{nat_cmp-IsAntisymmetric, slice_cmp-IsAntisymmetric}
 use Rattle.std.specs.List.{AllByRecursion}
@@ -16,7 +17,7 @@ use Rattle.std.proofs.lemmas.Option.{slice_get_within, unwrap_or-slice_get}
 use Rattle.lattice_core.specs.MemberLaws.{Contains-cons_cases, Contains-first, Contains-later, Contains-none}
 use Rattle.footer_text.specs.Lines.{IsFooter}
 use Rattle.gate_check.specs.Gained.{Gains}
-use Rattle.gate_check.specs.Ignored.{IsNearMiss, LineMisses}
+use Rattle.gate_check.specs.Ignored.{BeginsLike, IsNearMiss, LineMisses}
 use Rattle.gate_check.specs.Unused.{SomeIs}
 use Rattle.gate_check.proofs.Sought.{at_place, in_either, in_first, in_second, none_yet}
 
@@ -34,15 +35,30 @@ module _ (f : ℕ → ℕ) (start text : List ℕ) where
 
   pub is_longer : (rest : List ℕ) → map f text ≡ map f start ++ rest → length start ≤ length text
   is_longer rest is =
-      let whole : length text ≡ length start + length rest = sym (length-map f text) ∙ ap length is ∙ length-append (map f start) rest ∙ ap (λ n. n + length rest) (length-map f start) in
+      let whole : length text ≡ length start + length rest = sym (length-map text f) ∙ ap length is ∙ length-append (map f start) rest ∙ ap (λ n. n + length rest) (length-map start f) in
       omega arith
 
   pub front_same : (rest : List ℕ) → map f text ≡ map f start ++ rest → map f (take (length start) text) ≡ map f start
   front_same rest is =
-      let as_long : length (map f start) ≡ length start = length-map f start in
+      let as_long : length (map f start) ≡ length start = length-map start f in
       sym (take-map f (length start) text) ∙ ap (take (length start)) is
       ∙ take-append-le (length start) (map f start) rest (omega arith)
       ∙ take_all (length start) (map f start) (omega arith)
+
+pub told_like : (start text : List ℕ) (b : Bool) → length start ≤ length text
+    → (b ≡ true) ↔ (map to_ascii_lowercase (take (length start) text) ≡ map to_ascii_lowercase start)
+    → MatchBool b (BeginsLike start text) (¬ BeginsLike start text)
+told_like start text true long same = front_like to_ascii_lowercase start text long (same.0 refl)
+told_like start text false long same = λ begins.
+    let no : false ≡ true = same.1 (front_same to_ascii_lowercase start text begins.0 begins.1) in cc
+
+-- the same of equal texts
+pub like_of : (b : Bool) (other start another text : List ℕ) → other ≡ start → another ≡ text
+    → MatchBool b (BeginsLike other another) (¬ BeginsLike other another)
+    → MatchBool b (BeginsLike start text) (¬ BeginsLike start text)
+like_of b other start another text p q told =
+    subst (λ (t : List ℕ). MatchBool b (BeginsLike start t) (¬ BeginsLike start t)) q
+    (subst (λ (s : List ℕ). MatchBool b (BeginsLike s another) (¬ BeginsLike s another)) p told)
 
 -- ---- the first elements of a list
 
@@ -60,6 +76,10 @@ module _ {X : Type 0} (P : X → Type 0) where
       let within = slice_get_within xs i x at in
       let same = sym (unwrap_or-slice_get xs i x) ∙ ap (λ o. unwrap_or o x) at in
       at_place P xs i x within (sym same) here
+
+  pub alone : (x : X) → SomeIs P (x ∷ []) → P x
+  alone x (inl here) = here
+  alone x (inr none) = absurd none
 
 -- ---- a set of texts
 
@@ -114,14 +134,15 @@ texts_in_order (x ∷ xs) sorted = (all_above x xs sorted.0, texts_in_order xs s
 
 -- ---- what a line adds
 
-module _ {Y : Type 0} (old new : BTreeSet (String Y)) (bases : List (List ℕ)) (line : List ℕ) where
+module _ {Y : Type 0} (old : BTreeSet (String Y)) (bases : List (List ℕ)) (line : List ℕ) where
   pub gains_nothing : ((value : List ℕ) → ¬ LineMisses bases value line) → Gains old (λ value. LineMisses bases value line) old
-  gains_nothing none = λ text. (λ c. inl c, λ either. elim either [ inl c ↦ c | inr misses ↦ absurd (none text misses) ])
+  gains_nothing none text = (λ c. inl c, λ either. elim either [ inl c ↦ c | inr misses ↦ absurd (none text misses) ])
 
-  pub gains_one : (value : List ℕ) → ((other : List ℕ) → IsFooter line other → other ≡ value) → IsFooter line value
-      → IsNearMiss bases value → map string_bytes new.keys ≡ insert_key (slice_cmp nat_cmp) (map string_bytes old.keys) value
+  pub gains_one : (new : BTreeSet (String Y)) (value : List ℕ) → ((other : List ℕ) → IsFooter line other → other ≡ value)
+      → IsFooter line value → IsNearMiss bases value
+      → map string_bytes new.keys ≡ insert_key (slice_cmp nat_cmp) (map string_bytes old.keys) value
       → Gains old (λ value. LineMisses bases value line) new
-  gains_one value only footer near is = λ text. (
+  gains_one new value only footer near is text = (
     λ c. elim (put_in (map string_bytes old.keys) value text (subst (λ l. Contains l text) is c)) [
       | inl known ↦ inl known
       | inr same ↦ inr (subst (λ t. LineMisses bases t line) same (footer, near))
@@ -134,14 +155,14 @@ module _ {Y : Type 0} (old new : BTreeSet (String Y)) (bases : List (List ℕ)) 
 
 -- ---- what several add, one after another
 
-module _ {Y X : Type 0} (P : List ℕ → X → Type 0) (start now new : BTreeSet (String Y)) where
-  pub gains_none : (xs : List X) → xs ≡ [] → Gains start (λ text. SomeIs (P text) xs) start
-  gains_none xs none = λ text. (λ c. inl c, λ either. elim either [ inl c ↦ c | inr some ↦ absurd (subst (SomeIs (P text)) none some) ])
+module _ {Y X : Type 0} (P : List ℕ → X → Type 0) (start : BTreeSet (String Y)) where
+  pub gains_none : Gains start (λ text. SomeIs (P text) []) start
+  gains_none text = (λ c. inl c, λ either. elim either [ inl c ↦ c | inr some ↦ absurd some ])
 
   -- those so far, and one more
-  pub gains_more : (xs : List X) (x : X) → Gains start (λ text. SomeIs (P text) xs) now → Gains now (λ text. P text x) new
-      → Gains start (λ text. SomeIs (P text) (xs ++ x ∷ [])) new
-  gains_more xs x so_far step = λ text. (
+  pub gains_more : (now new : BTreeSet (String Y)) (xs : List X) (x : X) → Gains start (λ text. SomeIs (P text) xs) now
+      → Gains now (λ text. P text x) new → Gains start (λ text. SomeIs (P text) (xs ++ x ∷ [])) new
+  gains_more now new xs x so_far step text = (
     λ c. elim ((step text).0 c) [
       | inl known ↦ elim ((so_far text).0 known) [ inl first ↦ inl first | inr some ↦ inr (in_first (P text) xs (x ∷ []) some) ]
       | inr here ↦ inr (in_second (P text) xs (x ∷ []) (inl here))
@@ -150,9 +171,16 @@ module _ {Y X : Type 0} (P : List ℕ → X → Type 0) (start now new : BTreeSe
       | inl first ↦ inl ((so_far text).1 (inl first))
       | inr some ↦ elim (in_either (P text) xs (x ∷ []) some) [
         | inl before ↦ inl ((so_far text).1 (inr before))
-        | inr last ↦ elim last [ inl here ↦ inr here | inr none ↦ absurd none ]
+        | inr last ↦ inr (alone (P text) x last)
       ]
     ]),
+  )
+
+  pub gains_alone : (new : BTreeSet (String Y)) (x : X) → Gains start (λ text. P text x) new
+      → Gains start (λ text. SomeIs (P text) (x ∷ [])) new
+  gains_alone new x step text = (
+    λ c. elim ((step text).0 c) [ inl known ↦ inl known | inr here ↦ inr (inl here) ],
+    λ either. (step text).1 (elim either [ inl known ↦ inl known | inr some ↦ inr (alone (P text) x some) ]),
   )
 
 -- ---- what is left
@@ -163,17 +191,17 @@ Leaves P start whole now rest = (text : List ℕ)
     → (Contains (map string_bytes now.keys) text ⊎ SomeIs (P text) rest)
     ↔ (Contains (map string_bytes start.keys) text ⊎ SomeIs (P text) whole)
 
-module _ {Y X : Type 0} (P : List ℕ → X → Type 0) (start now new : BTreeSet (String Y)) (whole : List X) where
-  pub leaves_all : (rest : List X) → rest ≡ whole → Leaves P start whole start rest
-  leaves_all rest same = λ text. (
+module _ {Y X : Type 0} (P : List ℕ → X → Type 0) (start : BTreeSet (String Y)) (whole rest : List X) where
+  pub leaves_all : rest ≡ whole → Leaves P start whole start rest
+  leaves_all same text = (
     λ either. elim either [ inl c ↦ inl c | inr some ↦ inr (subst (SomeIs (P text)) same some) ],
     λ either. elim either [ inl c ↦ inl c | inr some ↦ inr (subst (SomeIs (P text)) (sym same) some) ],
   )
 
   -- some are added, and the later ones are left
-  pub leaves_later : (rest part later : List X) → rest ≡ part ++ later → Gains now (λ text. SomeIs (P text) part) new
-      → Leaves P start whole now rest → Leaves P start whole new later
-  leaves_later rest part later is step left = λ text. (
+  pub leaves_later : (now new : BTreeSet (String Y)) (part later : List X) → rest ≡ part ++ later
+      → Gains now (λ text. SomeIs (P text) part) new → Leaves P start whole now rest → Leaves P start whole new later
+  leaves_later now new part later is step left text = (
     λ either. (left text).0 (elim either [
       | inl c ↦ elim ((step text).0 c) [
         | inl known ↦ inl known
@@ -190,17 +218,20 @@ module _ {Y X : Type 0} (P : List ℕ → X → Type 0) (start now new : BTreeSe
     ],
   )
 
-  pub gains_alone : (x : X) → Gains now (λ text. P text x) new → Gains now (λ text. SomeIs (P text) (x ∷ [])) new
-  gains_alone x step = λ text. (
-    λ c. elim ((step text).0 c) [ inl known ↦ inl known | inr here ↦ inr (inl here) ],
-    λ either. (step text).1 (elim either [
-      | inl known ↦ inl known
-      | inr some ↦ elim some [ inl here ↦ inr here | inr none ↦ absurd none ]
-    ]),
-  )
-
-  pub leaves_none : (rest : List X) → rest ≡ [] → Leaves P start whole now rest → Gains start (λ text. SomeIs (P text) whole) now
-  leaves_none rest none left = λ text. (
+  pub leaves_none : (now : BTreeSet (String Y)) → rest ≡ [] → Leaves P start whole now rest
+      → Gains start (λ text. SomeIs (P text) whole) now
+  leaves_none now none left text = (
     λ c. (left text).0 (inl c),
     λ either. elim ((left text).1 either) [ inl c ↦ c | inr some ↦ absurd (subst (SomeIs (P text)) none some) ],
   )
+
+-- what is added to none
+pub gains_from_empty : {Y : Type 0} (P : List ℕ → Type 0) (start now : BTreeSet (String Y)) → start.keys ≡ [] → Gains start P now
+    → (text : List ℕ) → Contains (map string_bytes now.keys) text ↔ P text
+gains_from_empty P start now none gains text = (
+  λ c. elim ((gains text).0 c) [
+    | inl there ↦ absurd (Contains-none text (subst (λ keys. Contains (map string_bytes keys) text) none there))
+    | inr so ↦ so
+  ],
+  λ so. (gains text).1 (inr so),
+)
