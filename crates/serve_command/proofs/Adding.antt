@@ -98,7 +98,8 @@ opened_says (Some i) (Some j) own torn changes = (
 )
 
 -- what is known of a tape is known of the journal that was opened on it, and of what came of that
-pub opened_known : {B E : Type 0} (old new : Option Image) (own : List Operation) (torn : ℕ) (result : Result (Book × B) E)
+pub opened_known : {B E : Type 0} (old new : Option Image) (own : List Operation) (torn : ℕ)
+    (result : Result (Book × B) E)
     → Changes old new (λ i j. IsSettled j × IsOpened i.contents own torn j.contents)
     → IfOk result (λ begun. IsSome new → IsSome begun.0.image)
     → IfOk result (λ begun. IsSome old → IsSome begun.0.image)
