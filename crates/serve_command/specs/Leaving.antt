@@ -1,5 +1,5 @@
 -- What a site of the program leaves: what keeps its operations, the record that it had, and what was saved.
-use Rattle.std.specs.Prelude.{◌≡◌, ◌⊎◌, ◌++◌, List, Option, None, Some, Result, Ok, Err, IfSome, IsSome}
+use Rattle.std.specs.Prelude.{◌≡◌, ◌⊎◌, ◌++◌, ℕ, List, Option, None, Some, Result, Ok, Err, IfSome, IsSome}
 use Rattle.replica_core.specs.Journal.{all_arrived}
 use Rattle.replica_core.specs.Sets.{IsSameSet}
 use Rattle.review_ops.specs.Operation.{Operation}
@@ -10,6 +10,7 @@ use Rattle.site_serve.specs.declared.setup.ServeFault.{ServeFault}
 use Rattle.site_serve.specs.declared.setup.Served.{Served}
 use Rattle.serve_command.specs.Beginning.{HasSurvivors, IsRecordBegun}
 use Rattle.serve_command.specs.Endings.{EndsAs}
+use Rattle.serve_command.specs.Starts.{IsStartOf}
 use Rattle.serve_command.specs.declared.command.Ended.{Ended}
 use Rattle.serve_command.specs.declared.command.Ended.TheVariants.{Program, Site}
 use Rattle.serve_command.specs.declared.fault.ProgramFault.TheVariants.{NoSave}
@@ -59,3 +60,11 @@ pub record HasRun (known : Option Image) (loaded : List Operation) (journal : Bo
   pub kept : Survive journal (first ++ more)
   pub still_known : IsSome known → IsSome journal.image
   pub leaves : IfSome left (λ ops. ops ≡ all_arrived begun more)
+
+-- it was run under a start that it may have by the record that it began with; and it left none where it wasn't run
+pub record HasRunUnder (known : Option Image) (loaded : List Operation) (site : ℕ) (named start : Option ℕ)
+    (left : Option (List Operation)) : Type 0 where
+  pub begun : List Operation
+  pub whole : IfSome known (λ i. IsRecordBegun i.contents loaded begun)
+  pub under : IfSome start (IsStartOf site named begun)
+  pub run : start ≡ None → left ≡ None

@@ -1,6 +1,6 @@
 //! Ends a site of the program: saves its record, and gives back its keeper.
 
-ghost use Rattle.std.specs.Prelude.{◌≡◌, Err, List, None, Ok};
+ghost use Rattle.std.specs.Prelude.{◌≡◌, Err, List, None, Ok, Some};
 ghost use Rattle.review_ops.specs.Operation.{Operation};
 ghost use Rattle.serve_command.specs.Endings.{EndsAs};
 ghost use Rattle.serve_command.specs.Leaving.{EndsBy, HasSaved, IsLeftOf, IsSavedOr, LeavesKept};
@@ -17,6 +17,8 @@ use site_serve::{EndedSite, Served};
 pub struct Finished<K> {
     /// What keeps its operations.
     pub keeper: K,
+    /// The start that it was run under, if it was run.
+    pub start: Option<u32>,
     /// Its record at the end, if it was run to its end.
     pub left: Option<Replica>,
     pub ended: Result<(), Ended<'static>>,
@@ -26,12 +28,14 @@ pub struct Finished<K> {
 pub fn unrun<K: Keeps>(keeper: K, ended: Ended<'static>) -> Finished<K>
     ensures kept { (begun : List Operation) → LeavesKept K.survives (K.holds keeper) begun result.keeper result.left }
     ensures known { K.is_known keeper → K.is_known result.keeper }
+    ensures start { result.start ≡ None }
     ensures left { result.left ≡ None }
     ensures ended { result.ended ≡ Err ended.entry }
 {
     keeper.what_it_has_survives();
     Finished {
         keeper,
+        start: None,
         left: None,
         ended: Err(ended),
     }
@@ -40,23 +44,27 @@ pub fn unrun<K: Keeps>(keeper: K, ended: Ended<'static>) -> Finished<K>
 /// Saves what a site has left, also where its output failed, or where it ended because its start is taken.
 pub fn finish<S: Saves, K>(snapshot_file: &mut S, ended_site: EndedSite<K>) -> Finished<K>
     ensures keeper { result.keeper ≡ ended_site.keeper }
+    ensures start { result.start ≡ Some ended_site.origin.1 }
     ensures left { IsLeftOf ended_site.served result.left }
     ensures saved { HasSaved S.saves snapshot_file.old result.left result.ended snapshot_file.new }
     ensures ends { EndsBy ended_site.served result.ended }
 {
     let EndedSite {
         keeper,
-        origin: _,
+        origin,
         served,
     } = ended_site;
+    let start = Some(origin.1);
     match served {
         Ok(served) => Finished {
             keeper,
+            start,
             ended: saved(snapshot_file, &served),
             left: Some(served.replica),
         },
         Err(fault) => Finished {
             keeper,
+            start,
             left: None,
             ended: Err(Ended::Site(fault)),
         },

@@ -1,14 +1,15 @@
 //! Runs a site over its keeper, and saves its snapshot.
 
-ghost use Rattle.std.specs.Prelude.{◌≡◌, IfErr, IfOk, IfSome, IsSome, List, OnErr, OnOk, option_map};
+ghost use Rattle.std.specs.Prelude.{◌≡◌, IfErr, IfOk, IfSome, IsSome, List, None, OnErr, OnOk, Some, option_map};
 ghost use Rattle.console.specs.Showing.{error_output};
 ghost use Rattle.replica_core.specs.Sets.{IsSameSet};
 ghost use Rattle.review_ops.specs.Operation.{Operation};
 ghost use Rattle.site_journal.specs.Book.{IsHolding};
 ghost use Rattle.site_journal.specs.Tape.{IsAtStart};
 ghost use Rattle.serve_command.specs.Beginning.{HasSurvivors, IsRecordBegun, IsUnbegun, SaysTornOf};
-ghost use Rattle.serve_command.specs.Leaving.{HasRun, HasSaved, LeavesKept};
+ghost use Rattle.serve_command.specs.Leaving.{HasRun, HasRunUnder, HasSaved, LeavesKept};
 ghost use Rattle.serve_command.specs.Printing.{prints_of};
+ghost use Rattle.serve_command.specs.Starts.{IsStartOf};
 
 use super::command::Ended;
 use super::finished::{Finished, finish, unrun};
@@ -38,10 +39,10 @@ use std::sync::{Arc, Wait};
 use std::thread::Threads;
 use std::time::Clock;
 
-/// Runs a site with a journal on a tape that was just opened, and saves what it has left. It begins with what the journal
-/// says and what was loaded, as `begin` does; and whatever a crash leaves of the journal that is given back says all
-/// that it began with and published, and what that is is known where it was known of the tape. Refused where the journal
-/// isn't opened; then nothing is run or saved.
+/// Runs a site with a journal on a tape that was just opened, and saves what it has left. It begins with what the
+/// journal says and what was loaded, as `begin` does, under a start that is unused there; and whatever a crash leaves of
+/// the journal that is given back says all that it began with and published. What that journal has is known if it was
+/// known of the tape. Refused where the journal isn't opened; then nothing is run or saved.
 pub fn run_with_journal<R, I, N, E, L, S, T>(
     rt: R,
     alloc: Global,
@@ -64,6 +65,8 @@ where
     requires { IsAtStart (T.image tape) (T.left tape) }
     ensures ran { IfOk result
         (λ finished. HasRun (T.image tape) site.entry.replica finished.keeper finished.left) }
+    ensures under { IfOk result (λ finished. HasRunUnder (T.image tape) site.entry.replica site.entry.serving.site
+        site.entry.serving.start finished.start finished.left) }
     ensures saved { IfOk result (λ finished. HasSaved S.saves snapshot_file.old finished.left finished.ended snapshot_file.new) }
     ensures refused { OnErr result (snapshot_file.new ≡ snapshot_file.old) }
 {
@@ -89,6 +92,7 @@ fn begin_on_tape<'a, R: Threads + Drop, T: Tape + Drop, E: Drain>(
     ensures kept { IfOk result
         (λ begun. (ops : List Operation) × IsHolding begun.0 ops × IsSameSet begun.1.replica ops) }
     ensures known { IfOk result (λ begun. IsSome (T.image tape) → IsSome begun.0.image) }
+    ensures same { IfOk result (λ begun. begun.1.serving ≡ site.entry.serving) }
     ensures whole { IfOk result
         (λ begun. IfSome (T.image tape) (λ i. IsRecordBegun i.contents site.entry.replica begun.1.replica)) }
     ensures survivors { IfOk result
@@ -116,8 +120,9 @@ fn begin_on_tape<'a, R: Threads + Drop, T: Tape + Drop, E: Drain>(
 }
 
 /// Runs a site over what keeps its operations, and saves what it has left. Whatever that had at first survives in what
-/// is given back, with all that came to the record; and what is left is the first record with just these. A site whose
-/// start, listeners, input or output can't be had isn't run; then nothing is saved.
+/// is given back, with all that came to the record; and what is left is the first record with just these. It is run
+/// under a start that it may have by its words and that record. A site whose start, listeners, input or output can't be
+/// had isn't run; then nothing is saved.
 pub fn run_with_keeper<R, I, N, E, L, S, K>(
     rt: R,
     alloc: Global,
@@ -140,6 +145,9 @@ where
     requires { (first : List Operation) × K.holds keeper first }
     ensures kept { LeavesKept K.survives (K.holds keeper) site.entry.replica result.keeper result.left }
     ensures known { K.is_known keeper → K.is_known result.keeper }
+    ensures start { IfSome result.start
+        (IsStartOf site.entry.serving.site site.entry.serving.start site.entry.replica) }
+    ensures run { result.start ≡ None → result.left ≡ None }
     ensures saved { HasSaved S.saves snapshot_file.old result.left result.ended snapshot_file.new }
 {
     match prepare(rt, alloc, site, streams) {
@@ -169,6 +177,7 @@ where
     requires { (first : List Operation) × K.holds keeper first }
     ensures kept { LeavesKept K.survives (K.holds keeper) prepared.entry.opened.site.replica result.keeper result.left }
     ensures known { K.is_known keeper → K.is_known result.keeper }
+    ensures start { result.start ≡ Some prepared.entry.opened.start }
     ensures saved { HasSaved S.saves snapshot_file.old result.left result.ended snapshot_file.new }
 {
     let Prepared {
