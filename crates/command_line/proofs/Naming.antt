@@ -5,7 +5,7 @@ use Rattle.command_tree.specs.Matching.{AreFaultlessWords, Matched, Row, Text, m
 use Rattle.command_line.specs.declared.asked.Asked.{Asked}
 use Rattle.command_line.specs.declared.asked.Asked.TheVariants.{Enqueue, Events, Help, NoMemory, Recover, Run, Serve}
 use Rattle.command_line.specs.declared.asked.Asked.TheVariants.{Usage, Version}
-use Rattle.command_line.specs.Asking.{WordsAsk, IsAskedByWords, Means, Name, ArgumentsSay, check, enqueue, events, footers, graph, merge}
+use Rattle.command_line.specs.Asking.{WordsAsk, IsAskedByWords, IsNothing, Means, Name, ArgumentsSay, check, enqueue, events, footers, graph, merge}
 use Rattle.command_line.specs.Asking.{ready, recover, serve, simulate, text_of, why}
 use Rattle.command_line.specs.Values.{Finds}
 
@@ -60,6 +60,10 @@ found_named name text rows None is none = λ asked found.
 
 -- ---- what words ask for
 
+pub nothing_matched : (matched : Matched) → matched ≡ None → IsNothing matched
+nothing_matched matched none = λ asked is.
+    let bad : None ≡ Some (text_of is.0, is.1) = sym none ∙ is.2 in cc
+
 pub asks_meant : (words : List Text) (matched : Matched) (asked : Asked) → AreFaultlessWords words
     → matched_of words ≡ matched → Means matched asked → WordsAsk words asked
 asks_meant words matched (Run command) faultless same means =
@@ -75,5 +79,5 @@ asks_meant words matched (Enqueue handing) faultless same means =
 asks_meant words matched (Help text) faultless same means = absurd means
 asks_meant words matched (Version text) faultless same means = absurd means
 asks_meant words matched (Usage text) faultless same means =
-    inr (λ asked is. means asked (subst (λ m. IsAskedByWords m asked) same is))
+    inr (faultless, λ asked is. means asked (subst (λ m. IsAskedByWords m asked) same is))
 asks_meant words matched NoMemory faultless same means = means

@@ -1,10 +1,11 @@
 -- When the values of arguments say no number, no item and no command.
 use Rattle.std.proofs.Common.{◌≡◌, ◌∙◌, ◌<◌, ℕ, List, [], ◌∷◌, map, length, get_or, Option, None, Some, Bool, true}
 use Rattle.std.proofs.Common.{false}
-use Rattle.std.proofs.Common.{not, refl, suc, zero, cond, filter, take, ◌+◌, ◌++◌, Bor, option_map, is_some, sym, ap, subst, arith, codes}
+use Rattle.std.proofs.Common.{not, refl, suc, zero, cond, filter, take, drop, ◌+◌, ◌++◌, Bor, option_map, is_some, sym, ap, subst, arith, codes}
 use Rattle.std.specs.Prelude.{◌||◌}
+use Rattle.std.specs.Str.{bytes_eq}
 use Rattle.std.specs.List.{AllZip, list_any, position_or_len, before_first, after_first}
-use Rattle.std.proofs.lemmas.List.{get_or-map, length-map, take-map}
+use Rattle.std.proofs.lemmas.List.{drop_more, get_or-map, length-map, take-map}
 use Rattle.std.proofs.lemmas.List.Elements.{filter_more}
 use Rattle.std.proofs.lemmas.Option.{slice_get-get_or}
 use Rattle.lattice_core.specs.ZipLaws.{AllZip-at}
@@ -15,7 +16,7 @@ use Rattle.command_line.specs.declared.asked.Command.TheVariants.{Footers, Ready
 use Rattle.command_line.specs.declared.asked.EventWords.{EventWords}
 use Rattle.command_line.specs.declared.asked.RecoverWords.{RecoverWords}
 use Rattle.command_line.specs.declared.asked.ServeWords.{ServeWords}
-use Rattle.command_line.specs.Asking.{AreFeedOptions, AreOptions, ArgumentsSay, IsRecovery, events, footers}
+use Rattle.command_line.specs.Asking.{AreFeedOptions, AreOptions, ArgumentsSay, IsRecovery, events, footers, has_repeat}
 use Rattle.command_line.specs.Asking.{ready, recover, serve, why}
 use Rattle.command_line.specs.Values.{Finds, HasArgument, GivesAny, GivesItem, GivesNumber, ItemIsNamed, NamesRow}
 use Rattle.command_line.specs.Values.{GivesAnyItem, GivesHosts, GivesItemAt, GivesPaths}
@@ -203,3 +204,15 @@ pub any_over : {X Y : Type 0} (f : X → Y) (test : Y → Bool) (xs : List X)
     → list_any test (map f xs) ≡ list_any (λ x. test (f x)) xs
 any_over f test [] = refl
 any_over f test (x ∷ xs) = ap (λ b. test (f x) || b) (any_over f test xs)
+
+-- ---- words that are there twice
+
+-- the first of the words that are left is there again, or one of those after it
+pub repeat_first : (words : List (Bor Text)) (n : ℕ) (d : Bor Text) → n < length words
+    → has_repeat (map (λ word. word.now) (drop n words))
+    ≡ (list_any (λ other. bytes_eq (get_or words n d).now other.now) (drop (n + 1) words)
+    || has_repeat (map (λ word. word.now) (drop (n + 1) words)))
+repeat_first words n d within =
+    ap (λ l. has_repeat (map (λ word. word.now) l)) (drop_more words n d within)
+    ∙ ap (λ b. b || has_repeat (map (λ word. word.now) (drop (n + 1) words)))
+    (any_over (λ word. word.now) (bytes_eq (get_or words n d).now) (drop (n + 1) words))

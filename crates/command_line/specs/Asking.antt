@@ -234,7 +234,7 @@ IsNothing matched = (asked : Asked) → ¬ IsAskedByWords matched asked
 abbrev pub WordsAsk : List Text → Asked → Type 0
 WordsAsk words (Help text) = AskForHelp words
 WordsAsk words (Version text) = AskForVersion words
-WordsAsk words (Usage text) = AreFaulty words ⊎ IsNothing (matched_of words)
+WordsAsk words (Usage text) = AreFaulty words ⊎ (AreFaultlessWords words × IsNothing (matched_of words))
 WordsAsk words NoMemory = Unit {0}
 WordsAsk words asked = AreFaultlessWords words × IsAskedByWords (matched_of words) asked
 

@@ -206,19 +206,17 @@ pub fn names_a_peer_twice(values: &Values<'_>) -> bool
 fn has_repeat(words: &[&str]) -> bool
     ensures { result ≡ has_repeat (map (λ word. word.now) words.now) }
 {
-    let mut rest = words;
-    while let Some((first, later)) = rest.split_first() {
-        if is_among(later, first) {
+    for number in 0..words.len() {
+        if is_among(&words[number + 1..], words[number]) {
             return true;
         }
-        rest = later;
     }
     false
 }
 
 /// Whether a word is among these.
 fn is_among(words: &[&str], word: &str) -> bool
-    ensures { result ≡ list_any (bytes_eq word.now) (map (λ other. other.now) words.now) }
+    ensures { result ≡ list_any (λ other. bytes_eq word.now other.now) words.now }
 {
     words.iter().any(|other| word == *other)
 }
@@ -322,12 +320,11 @@ fn first_there<'a>(words: Option<&[&'a str]>) -> Option<&'a str> {
 
 /// The first word that is there again later.
 fn first_repeat<'a>(words: Option<&[&'a str]>) -> Option<&'a str> {
-    let mut rest = words?;
-    while let Some((word, later)) = rest.split_first() {
-        if is_among(later, word) {
+    let words = words?;
+    for (number, word) in words.iter().enumerate() {
+        if is_among(&words[number + 1..], word) {
             return Some(*word);
         }
-        rest = later;
     }
     None
 }

@@ -14,7 +14,7 @@ pub parses_matched : (words : List Text) (matched : Matched) (parsed : Parsed) �
 parses_matched words matched (Command name values) faultless same reads = (faultless, sym same ∙ reads)
 parses_matched words matched (Help text) faultless same reads = absurd reads
 parses_matched words matched (Version text) faultless same reads = absurd reads
-parses_matched words matched (Usage text) faultless same reads = inr (sym same ∙ reads)
+parses_matched words matched (Usage text) faultless same reads = inr (faultless, sym same ∙ reads)
 parses_matched words matched NoMemory faultless same reads = reads
 
 -- the kind of a fault is among those that clap finds, or it is want of memory

@@ -7,12 +7,13 @@ use Rattle.command_tree.specs.declared.parsing.Parsed.TheVariants.{Command, Help
 use Rattle.command_tree.specs.Matching.{AreFaulty, AskForHelp, AskForVersion, AreFaultlessWords, Matched, Text, matched_of}
 use Rattle.command_tree.specs.Rows.{rows_in}
 
--- words are read as this: a command with its values, only where clap finds no fault; memory may be refused at any
+-- words are read as this: a command with its values, only where clap finds no fault; a usage error where it finds one
+-- that isn't a wish for help or for the version, or no fault and no command; memory may be refused at any
 abbrev pub Parses : List Text → Parsed → Type 0
 Parses words (Command name values) = AreFaultlessWords words × (matched_of words ≡ Some (name.now, rows_in values))
 Parses words (Help text) = AskForHelp words
 Parses words (Version text) = AskForVersion words
-Parses words (Usage text) = AreFaulty words ⊎ (matched_of words ≡ None)
+Parses words (Usage text) = AreFaulty words ⊎ (AreFaultlessWords words × (matched_of words ≡ None))
 Parses words NoMemory = Unit {0}
 
 -- what was matched is read as this
