@@ -343,6 +343,57 @@ end 12 6
     assert_check(&rt, alloc, approvals, 0, lines, "");
 }
 
+/// A gate that rejects all changes, one that rejects each status, one that requires a status, and one that lets new
+/// changes in.
+const REJECTING: [(&str, &str); 4] = [
+    (
+        r#"{"bases":["https://r/"],"require":{"gerrit":{"approval":{"username":"a*"}}},
+"reject":{"gerrit":{"open":true,"status":["MERGED","ABANDONED"],"approval":{"username":"b*"}}}}"#,
+        r#"require /require/gerrit/approval/0 any vote by "a*"
+reject /reject/gerrit/open open
+reject /reject/gerrit/status status "MERGED" or "ABANDONED"
+reject /reject/gerrit/approval/0 any vote by "b*"
+warning 1 Pattern /require/gerrit/approval/0 "a*"
+warning 4 NeverMet /reject/gerrit/open
+warning 4 NeverMet /reject/gerrit/status
+warning 1 Pattern /reject/gerrit/approval/0 "b*"
+end 4 4
+"#,
+    ),
+    (
+        r#"{"bases":["https://r/"],"require":{"gerrit":{"current-patchset":true}},
+"reject":{"gerrit":{"current-patchset":false,"status":["NEW","MERGED","ABANDONED"]}}}"#,
+        r#"require /require/gerrit/current-patchset current patch set
+reject /reject/gerrit/current-patchset not the current patch set
+reject /reject/gerrit/status status "NEW" or "MERGED" or "ABANDONED"
+warning 4 NeverMet /reject/gerrit/status
+end 3 1
+"#,
+    ),
+    (
+        r#"{"bases":["https://r/"],"require":{"gerrit":{"status":"NEW"}},"reject":{"gerrit":{"open":true}}}"#,
+        r#"require /require/gerrit/status status "NEW"
+reject /reject/gerrit/open open
+warning 4 NeverMet /require/gerrit/status
+end 2 1
+"#,
+    ),
+    (
+        r#"{"bases":["https://r/"],"reject":{"gerrit":{"open":false,"status":["MERGED","ABANDONED"]}}}"#,
+        r#"reject /reject/gerrit/open not open
+reject /reject/gerrit/status status "MERGED" or "ABANDONED"
+end 2 0
+"#,
+    ),
+];
+
+#[test]
+fn what_is_rejected_may_let_none_in(rt: HostRuntime) {
+    for (gate, lines) in REJECTING {
+        assert_check(&rt, rt.alloc(), gate, 0, lines, "");
+    }
+}
+
 #[test]
 fn a_strict_check_refuses_warnings(rt: HostRuntime) {
     let alloc = rt.alloc();

@@ -104,6 +104,26 @@ end 1
 }
 
 #[test]
+fn a_check_of_what_is_rejected_is_one_object(rt: HostRuntime) {
+    let gate =
+        r#"{"bases":["https://r/"],"reject":{"gerrit":{"open":true,"status":["MERGED","ABANDONED"]}}}"#;
+    let line =
+        r#"{"conditions":["reject /reject/gerrit/open open","reject /reject/gerrit/status status \"MERGED\" or \"ABANDONED\""],"warnings":[{"number":4,"name":"NeverMet","place":"/reject/gerrit/open"},{"number":4,"name":"NeverMet","place":"/reject/gerrit/status"}]}
+"#;
+    let words = ["check", "gate", "--json"];
+    assert_prints(
+        &rt,
+        rt.alloc(),
+        words.as_slice(),
+        gate,
+        "",
+        0,
+        line,
+        "",
+    );
+}
+
+#[test]
 fn footers_are_one_object(rt: HostRuntime) {
     let alloc = rt.alloc();
     let message = "Fix\n\nDepends-On: https://r/12\nDepends-On: https://r/9\nDepends-On: \"x\"\n";

@@ -1,5 +1,6 @@
 pub mod Exact
 pub mod Gathered
+pub mod Said
 pub mod Shut
 pub mod Texts
 pub mod Missed

@@ -1,6 +1,6 @@
 -- Texts that are added to a set, and what is left of a record.
-use Rattle.std.proofs.Common.{◌≡◌, ◌⊎◌, ◌↔◌, ◌∙◌, inl, inr, ℕ, ◌+◌, ◌<◌, ◌≤◌, List, [], ◌∷◌, ◌++◌, Bool, true, false, Option, None, Some}
-use Rattle.std.proofs.Common.{ap, arith, drop, get_or, length, map, refl, string_bytes, subst, sym, take}
+use Rattle.std.proofs.Common.{◌≡◌, ◌⊎◌, ◌↔◌, ◌∙◌, inl, inr, ℕ, ◌+◌, ◌≤◌, List, [], ◌∷◌, ◌++◌, Bool, true, false, Some}
+use Rattle.std.proofs.Common.{ap, arith, drop, length, map, refl, string_bytes, subst, sym, take}
 use Rattle.std.specs.Prelude.{Contains, MatchBool, String, slice_get, unwrap_or}
 use Rattle.std.specs.BTreeSet.{BTreeSet, insert_key}
 use Rattle.std.specs.Char.{to_ascii_lowercase}

@@ -16,10 +16,11 @@ use Rattle.gate_rules.specs.Reading.{each}
 use Rattle.gate_rules.specs.Rules.{GateRules, LabelRule, PatternRule}
 use Rattle.gate_rules.specs.declared.condition.Clause.TheVariants.{Approval, CurrentSet, OpenState, StatusIn}
 use Rattle.gate_rules.specs.declared.condition.Condition.{Condition}
+use Rattle.gate_rules.specs.declared.condition.Side.{Side}
 use Rattle.gate_rules.specs.declared.condition.Side.TheVariants.{Reject, Require}
-use Rattle.gate_check.specs.Meeting.{IsRejected, LetsNothingIn, comes_out, has_none, is_as_wide, lets_in, lets_none_in}
-use Rattle.gate_check.specs.Meeting.{is_current_never_met, is_no_vote, rejects_each, rejects_votes, same_answer}
-use Rattle.gate_check.specs.Meeting.{standing_with, wanted_vote}
+use Rattle.gate_check.specs.Meeting.{IsRejected, LetsNothingIn, asks_status, comes_out, has_none, is_as_wide, lets_in}
+use Rattle.gate_check.specs.Meeting.{is_current_never_met, is_no_vote, lets_none_in, rejects_each, rejects_votes}
+use Rattle.gate_check.specs.Meeting.{same_answer, shuts_out, standing_with, wanted_vote}
 
 -- ---- tests
 
@@ -78,7 +79,7 @@ out_rejected None e = cc
 out_rejected (Some true) e = refl
 out_rejected (Some false) e = cc
 
-none_let_in : (gate : GateRules) (status : Status) → lets_none_in gate ≡ true → lets_in gate status ≡ false
+pub none_let_in : (gate : GateRules) (status : Status) → lets_none_in gate ≡ true → lets_in gate status ≡ false
 none_let_in gate New none = (three_fail (lets_in gate New) (lets_in gate Abandoned) (lets_in gate Merged) none).0
 none_let_in gate Abandoned none = (three_fail (lets_in gate New) (lets_in gate Abandoned) (lets_in gate Merged) none).1
 none_let_in gate Merged none = (three_fail (lets_in gate New) (lets_in gate Abandoned) (lets_in gate Merged) none).2
@@ -116,6 +117,11 @@ status_shut gate none = λ change current set. by_last change current set (one_f
   by_last change current set (inr out) =
       (record { side = Reject; clause = StatusIn }, out_rejected (compared gate.reject (standing_of change current set) StatusIn) out)
 
+-- it is said of a side only where it is so
+pub none_in : (gate : GateRules) (side : Side) → shuts_out gate side ≡ true → lets_none_in gate ≡ true
+none_in gate Require none = none
+none_in gate Reject none = (both (not (asks_status gate.require)) (lets_none_in gate) none).1
+
 -- ---- the current patch set
 
 asked_twice : (required rejected : Option Bool) (so : Bool) → same_answer required rejected ≡ true
@@ -129,8 +135,9 @@ asked_twice (Some false) (Some true) so same = cc
 asked_twice (Some false) (Some false) true same = inl refl
 asked_twice (Some false) (Some false) false same = inr refl
 
-pub current_shut : (gate : GateRules) → is_current_never_met gate ≡ true → LetsNothingIn gate
-current_shut gate same = λ change current set. by_side change current set (asked_twice gate.require.is_current gate.reject.is_current _ same) where
+pub current_shut : (gate : GateRules) (side : Side) → is_current_never_met gate side ≡ true → LetsNothingIn gate
+current_shut gate Reject never = cc
+current_shut gate Require same = λ change current set. by_side change current set (asked_twice gate.require.is_current gate.reject.is_current _ same) where
   by_side : (change : Change) (current set : ℕ)
       → (compared gate.require (standing_of change current set) CurrentSet ≡ Some false)
       ⊎ (compared gate.reject (standing_of change current set) CurrentSet ≡ Some true)

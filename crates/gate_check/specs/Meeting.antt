@@ -8,9 +8,9 @@ use Rattle.change_core.specs.Votes.{GivenApproval}
 use Rattle.change_core.specs.declared.life.Status.{Status}
 use Rattle.change_core.specs.declared.life.Status.TheVariants.{New, Abandoned, Merged}
 use Rattle.gate_rules.specs.Own.{IsBroken, ItemStanding, compared, is_new, matches, names, same_flag, some}
-use Rattle.gate_rules.specs.Own.{standing_of}
+use Rattle.gate_rules.specs.Own.{side_rules, standing_of}
 use Rattle.gate_rules.specs.Reading.{each}
-use Rattle.gate_rules.specs.Rules.{GateRules, LabelRule, PatternRule}
+use Rattle.gate_rules.specs.Rules.{GateRules, LabelRule, PatternRule, SideRules}
 use Rattle.gate_rules.specs.declared.condition.Clause.TheVariants.{OpenState, StatusIn}
 use Rattle.gate_rules.specs.declared.condition.Condition.{Condition}
 use Rattle.gate_rules.specs.declared.condition.Side.{Side}
@@ -84,14 +84,25 @@ rejects_each rejected pattern (rule ∷ other ∷ rules) = true
 
 -- ---- the conditions of a gate
 
-abbrev pub is_open_never_met : GateRules → Bool
-is_open_never_met gate = is_some gate.require.is_open && lets_none_in gate
+-- a side asks something of the status
+abbrev pub asks_status : SideRules → Bool
+asks_status rules = is_some rules.is_open || is_some rules.status
 
-abbrev pub is_current_never_met : GateRules → Bool
-is_current_never_met gate = same_answer gate.require.is_current gate.reject.is_current
+-- that no change is let in is said of what is required of the status, and where nothing is, of what is rejected
+abbrev pub shuts_out : GateRules → Side → Bool
+shuts_out gate Require = lets_none_in gate
+shuts_out gate Reject = not (asks_status gate.require) && lets_none_in gate
 
-abbrev pub is_status_never_met : GateRules → Bool
-is_status_never_met gate = is_some gate.require.status && lets_none_in gate
+abbrev pub is_open_never_met : GateRules → Side → Bool
+is_open_never_met gate side = is_some (side_rules gate side).is_open && shuts_out gate side
+
+-- what is rejected of the current patch set lets others in
+abbrev pub is_current_never_met : GateRules → Side → Bool
+is_current_never_met gate Require = same_answer gate.require.is_current gate.reject.is_current
+is_current_never_met gate Reject = false
+
+abbrev pub is_status_never_met : GateRules → Side → Bool
+is_status_never_met gate side = is_some (side_rules gate side).status && shuts_out gate side
 
 -- an approval: only one that is required is to be met
 abbrev pub is_never_met : GateRules → Side → PatternRule → Bool

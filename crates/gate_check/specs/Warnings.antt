@@ -5,7 +5,7 @@ use Rattle.std.specs.Prelude.{decimal, flat_map, if◌then◌else◌, length, ma
 use Rattle.std.specs.Char.{is_ascii_graphic}
 use Rattle.std.specs.List.{list_all}
 use Rattle.json.specs.Print.{quoted}
-use Rattle.gate_rules.specs.Own.{some}
+use Rattle.gate_rules.specs.Own.{side_rules, some}
 use Rattle.gate_rules.specs.Rules.{GateRules, LabelRule, PatternRule}
 use Rattle.gate_rules.specs.declared.condition.Side.{Side}
 use Rattle.gate_rules.specs.declared.condition.Side.TheVariants.{Require, Reject}
@@ -99,7 +99,7 @@ unknown_warnings place None pattern = []
 unknown_warnings place (Some names) pattern =
     flat_map (label_warning place names) pattern.labels ++ voter_warnings place names pattern.username
 
--- ---- 4 NeverMet: what is required can't be met beside the other conditions
+-- ---- 4 NeverMet: what is asked can't be met beside the other conditions
 
 abbrev pub never_met : Bool → List ℕ → List Found
 never_met is_so place = warned is_so (of_place NeverMet place)
@@ -156,22 +156,25 @@ abbrev pub approval_warnings : GateRules → Option KnownNames → Side → ℕ 
 approval_warnings gate names side number pattern =
     warnings_at (pointer_of gate side (approval_pointer number)) names (is_never_met gate side pattern) pattern
 
--- of what is required under a key
-abbrev pub key_warnings : GateRules → List ℕ → Bool → List Found
-key_warnings gate key is_so = never_met is_so (pointer_of gate Require key)
+-- of what a side asks under a key
+abbrev pub key_warnings : GateRules → Side → List ℕ → Bool → List Found
+key_warnings gate side key is_so = never_met is_so (pointer_of gate side key)
 
--- of the conditions before the approvals
-abbrev pub first_warnings : GateRules → List Found
-first_warnings gate =
-    key_warnings gate (codes "open") (is_open_never_met gate)
-    ++ key_warnings gate (codes "current-patchset") (is_current_never_met gate)
-    ++ key_warnings gate (codes "status") (is_status_never_met gate)
+-- of a side's conditions before the approvals
+abbrev pub first_warnings : GateRules → Side → List Found
+first_warnings gate side =
+    key_warnings gate side (codes "open") (is_open_never_met gate side)
+    ++ key_warnings gate side (codes "current-patchset") (is_current_never_met gate side)
+    ++ key_warnings gate side (codes "status") (is_status_never_met gate side)
+
+-- of a side's conditions
+abbrev pub side_warnings : GateRules → Option KnownNames → Side → List Found
+side_warnings gate names side =
+    first_warnings gate side ++ by_place (approval_warnings gate names side) 0 (side_rules gate side).approvals
 
 -- condition by condition, as items are judged by them
 abbrev pub condition_warnings : GateRules → Option KnownNames → List Found
-condition_warnings gate names =
-    first_warnings gate ++ by_place (approval_warnings gate names Require) 0 gate.require.approvals
-    ++ by_place (approval_warnings gate names Reject) 0 gate.reject.approvals
+condition_warnings gate names = side_warnings gate names Require ++ side_warnings gate names Reject
 
 -- those of the conditions, then those of the bases, and then those of footers
 abbrev pub warnings_of : GateRules → Option Evidence → List Found

@@ -7,8 +7,8 @@ ghost use Rattle.gate_check.specs.Evidence.{names_shown_by};
 ghost use Rattle.gate_check.specs.Shown.{evidence_shown, names_shown};
 ghost use Rattle.gate_check.specs.Warnings.{approval_warnings, base_place, base_warning, base_warnings};
 ghost use Rattle.gate_check.specs.Warnings.{can_vote, condition_warnings, first_warnings, footer_warning};
-ghost use Rattle.gate_check.specs.Warnings.{footer_warnings, is_sign, key_warnings};
-ghost use Rattle.gate_check.specs.Warnings.{label_warning, never_met, nobody_warnings, pattern_warnings, unknown_name};
+ghost use Rattle.gate_check.specs.Warnings.{footer_warnings, is_sign, key_warnings, label_warning, never_met};
+ghost use Rattle.gate_check.specs.Warnings.{nobody_warnings, pattern_warnings, side_warnings, unknown_name};
 ghost use Rattle.gate_check.specs.Warnings.{unknown_warnings, username_warnings, voter_warnings, warnings_at};
 ghost use Rattle.gate_check.specs.Warnings.{warnings_of};
 
@@ -63,39 +63,61 @@ fn add_conditions(
     ensures { OnOk result (found.new.items ≡ found.old.items
         ++ condition_warnings gate.now (option_map (λ known. names_shown known.now) names.entry)) }
 {
-    add_first(alloc, gate, found)?;
-    let required = gate.clauses(Side::Require).approvals();
-    add_approvals(alloc, gate, names, Side::Require, required, found)?;
-    let rejected = gate.clauses(Side::Reject).approvals();
-    add_approvals(alloc, gate, names, Side::Reject, rejected, found)?;
+    add_side(alloc, gate, names, Side::Require, found)?;
+    add_side(alloc, gate, names, Side::Reject, found)?;
     Ok(())
 }
 
-/// Adds those of the conditions before the approvals.
-fn add_first(alloc: Global, gate: &Gate, found: &mut Vec<Finding>) -> Result<(), NoMemory>
-    ensures { OnOk result (found.new.items ≡ found.old.items ++ first_warnings gate.now) }
+/// Adds those of a side's conditions.
+fn add_side(
+    alloc: Global,
+    gate: &Gate,
+    names: Option<&Names>,
+    side: Side,
+    found: &mut Vec<Finding>,
+) -> Result<(), NoMemory>
+    ensures { OnOk result (found.new.items ≡ found.old.items
+        ++ side_warnings gate.now (option_map (λ known. names_shown known.now) names.entry) side) }
 {
-    add_key(alloc, gate, "open", is_open_never_met(gate), found)?;
-    let is_current = is_current_never_met(gate);
-    add_key(alloc, gate, "current-patchset", is_current, found)?;
-    add_key(alloc, gate, "status", is_status_never_met(gate), found)
+    add_first(alloc, gate, side, found)?;
+    let approvals = gate.clauses(side).approvals();
+    add_approvals(alloc, gate, names, side, approvals, found)?;
+    Ok(())
 }
 
-/// Adds that what is required under a key is never met, if it is so.
+/// Adds those of a side's conditions before the approvals.
+fn add_first(
+    alloc: Global,
+    gate: &Gate,
+    side: Side,
+    found: &mut Vec<Finding>,
+) -> Result<(), NoMemory>
+    ensures { OnOk result (found.new.items ≡ found.old.items ++ first_warnings gate.now side) }
+{
+    let is_open = is_open_never_met(gate, side);
+    add_key(alloc, gate, side, "open", is_open, found)?;
+    let is_current = is_current_never_met(gate, side);
+    add_key(alloc, gate, side, "current-patchset", is_current, found)?;
+    let is_status = is_status_never_met(gate, side);
+    add_key(alloc, gate, side, "status", is_status, found)
+}
+
+/// Adds that what a side asks under a key is never met, if it is so.
 fn add_key(
     alloc: Global,
     gate: &Gate,
+    side: Side,
     key: &str,
     is_so: bool,
     found: &mut Vec<Finding>,
 ) -> Result<(), NoMemory>
-    ensures { OnOk result (found.new.items ≡ found.old.items ++ key_warnings gate.now key.now is_so) }
+    ensures { OnOk result (found.new.items ≡ found.old.items ++ key_warnings gate.now side key.now is_so) }
 {
-    let place = place_of(alloc, gate, Side::Require, key)?;
+    let place = place_of(alloc, gate, side, key)?;
     add_never_met(alloc, is_so, place.as_str(), found)
 }
 
-/// Adds that what is required at a place is never met, if it is so.
+/// Adds that what is asked at a place is never met, if it is so.
 fn add_never_met(
     alloc: Global,
     is_so: bool,

@@ -1,21 +1,25 @@
 //! What the tests of warnings mean.
 
-ghost use Rattle.std.specs.Prelude.{◌≡◌, ◌↔◌, ℕ, List, Some, slice_get, true};
+ghost use Rattle.std.specs.Prelude.{◌≡◌, ◌↔◌, ◌||◌, ℕ, List, Some, slice_get, true};
 ghost use Rattle.gate_rules.specs.Rules.{GateRules, PatternRule};
+ghost use Rattle.gate_rules.specs.declared.condition.Side.{Side};
 ghost use Rattle.gate_rules.specs.declared.condition.Side.TheVariants.{Require};
-ghost use Rattle.gate_check.specs.Meeting.{IsRejected, LetsNothingIn, is_current_never_met, is_never_met};
+ghost use Rattle.gate_check.specs.Meeting.{IsRejected, LetsNothingIn, is_current_never_met, is_never_met, lets_none_in};
 ghost use Rattle.gate_check.specs.Names.{AreTheSameTexts};
 ghost use Rattle.gate_check.specs.Nearest.{FindsNearest};
 ghost use Rattle.gate_check.specs.Meeting.{is_open_never_met, is_status_never_met};
 ghost use Rattle.gate_check.specs.Warnings.{can_vote};
 ghost use Rattle.review_ops.specs.Good.{IsVoter};
 
-/// Where a gate has a condition that is never met, an item of any change breaks some condition of the gate. An approval
-/// is never met just where each vote that it takes, of which none is 0, is taken by one that is rejected.
+/// Where a gate has a condition that is never met, an item of any change breaks some condition of the gate. Where the
+/// conditions on a change's status let none in, one of them is never met. An approval is never met just where each vote
+/// that it takes, of which none is 0, is taken by one that is rejected.
 pub fn what_is_never_met_lets_nothing_in()
-    ensures opening { (gate : GateRules) → is_open_never_met gate ≡ true → LetsNothingIn gate }
-    ensures current { (gate : GateRules) → is_current_never_met gate ≡ true → LetsNothingIn gate }
-    ensures status { (gate : GateRules) → is_status_never_met gate ≡ true → LetsNothingIn gate }
+    ensures opening { (gate : GateRules) (side : Side) → is_open_never_met gate side ≡ true → LetsNothingIn gate }
+    ensures current { (gate : GateRules) (side : Side) → is_current_never_met gate side ≡ true → LetsNothingIn gate }
+    ensures status { (gate : GateRules) (side : Side) → is_status_never_met gate side ≡ true → LetsNothingIn gate }
+    ensures said { (gate : GateRules) → lets_none_in gate ≡ true
+        → (side : Side) × ((is_open_never_met gate side || is_status_never_met gate side) ≡ true) }
     ensures approval { (gate : GateRules) (place : ℕ) (pattern : PatternRule)
         → slice_get gate.require.approvals place ≡ Some pattern → is_never_met gate Require pattern ≡ true
         → LetsNothingIn gate }

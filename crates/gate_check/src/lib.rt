@@ -1,4 +1,4 @@
-//! What a gate asks, in words, and warnings of what looks mistaken in its gate file.
+//! What a gate asks, in words, and warnings of what looks mistaken in its gate file, and in the footers of a record.
 //!
 //! Its tests are in the crate `command_tests`.
 //!

@@ -5,33 +5,56 @@ ghost use Rattle.std.specs.Str.{bytes_eq};
 ghost use Rattle.gate_rules.specs.Own.{compared, names, some};
 ghost use Rattle.gate_rules.specs.Reading.{each};
 ghost use Rattle.gate_rules.specs.declared.condition.Clause.TheVariants.{OpenState, StatusIn};
-ghost use Rattle.gate_check.specs.Meeting.{comes_out, is_as_wide, is_current_never_met, is_never_met, is_open_never_met};
-ghost use Rattle.gate_check.specs.Meeting.{is_status_never_met, lets_in, lets_none_in, rejects_any_label, rejects_each};
-ghost use Rattle.gate_check.specs.Meeting.{rejects_votes, same_answer, standing_with};
+ghost use Rattle.gate_check.specs.Meeting.{asks_status, comes_out, is_as_wide, is_current_never_met, is_never_met};
+ghost use Rattle.gate_check.specs.Meeting.{is_open_never_met, is_status_never_met, lets_in, lets_none_in};
+ghost use Rattle.gate_check.specs.Meeting.{rejects_any_label, rejects_each, rejects_votes, same_answer, shuts_out};
+ghost use Rattle.gate_check.specs.Meeting.{standing_with};
 
 use change_core::{Approval, Status};
 use gate_rules::{Clauses, Gate, LabelValues, Pattern, Side};
 
-/// Whether `open` is required and can't be met.
-pub fn is_open_never_met(gate: &Gate) -> bool
-    ensures { result ≡ is_open_never_met gate.now }
+/// Whether a side asks for `open`, and no change is let in for what is asked of the status.
+pub fn is_open_never_met(gate: &Gate, side: Side) -> bool
+    ensures { result ≡ is_open_never_met gate.now side }
 {
-    gate.clauses(Side::Require).asks_open().is_some() && lets_none_in(gate)
+    gate.clauses(side).asks_open().is_some() && shuts_out(gate, side)
 }
 
-/// Whether `current-patchset` is required and can't be met.
-pub fn is_current_never_met(gate: &Gate) -> bool
-    ensures { result ≡ is_current_never_met gate.now }
+/// Whether a side requires `current-patchset`, and it can't be met.
+pub fn is_current_never_met(gate: &Gate, side: Side) -> bool
+    ensures { result ≡ is_current_never_met gate.now side }
 {
-    let required = gate.clauses(Side::Require).asks_current();
-    same_answer(required, gate.clauses(Side::Reject).asks_current())
+    match side {
+        Side::Require => {
+            let required = gate.clauses(Side::Require).asks_current();
+            same_answer(required, gate.clauses(Side::Reject).asks_current())
+        }
+        Side::Reject => false,
+    }
 }
 
-/// Whether `status` is required and can't be met.
-pub fn is_status_never_met(gate: &Gate) -> bool
-    ensures { result ≡ is_status_never_met gate.now }
+/// Whether a side asks for `status`, and no change is let in for what is asked of it.
+pub fn is_status_never_met(gate: &Gate, side: Side) -> bool
+    ensures { result ≡ is_status_never_met gate.now side }
 {
-    gate.clauses(Side::Require).statuses().is_some() && lets_none_in(gate)
+    gate.clauses(side).statuses().is_some() && shuts_out(gate, side)
+}
+
+/// Whether no change is let in, and this is said of the side: of what is rejected only if nothing is required.
+fn shuts_out(gate: &Gate, side: Side) -> bool
+    ensures { result ≡ shuts_out gate.now side }
+{
+    match side {
+        Side::Require => lets_none_in(gate),
+        Side::Reject => !asks_status(gate.clauses(Side::Require)) && lets_none_in(gate),
+    }
+}
+
+/// Whether a side asks something of the status.
+fn asks_status(clauses: &Clauses) -> bool
+    ensures { result ≡ asks_status clauses.now }
+{
+    clauses.asks_open().is_some() || clauses.statuses().is_some()
 }
 
 /// Whether the conditions on a change's status let no change in.
