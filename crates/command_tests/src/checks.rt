@@ -228,9 +228,11 @@ fn bases_are_looked_for_in_a_record(rt: HostRuntime) {
 }
 
 /// Messages with footers that begin with a base, of which the last one of the first names a change.
-const MISSES: &str = "Fix\\n\\nDepends-On: https://r/101 (first half)\\nDepends-On: https://r/102?tab=comments\\nDepends-On: https://r/103/2/src/a.c\\nDepends-On: HTTPS://R/104\\nDepends-On: https://r/105";
+const MISSES: &str =
+    "Fix\\n\\nDepends-On: https://r/101 (first half)\\nDepends-On: https://r/102?tab=comments\\nDepends-On: https://r/103/2/src/a.c\\nDepends-On: HTTPS://R/104\\nDepends-On: https://r/105";
 
-const AGAIN: &str = "Depends-On: https://r/102?tab=comments\\ndepends-on:http://s/\\nDepends-On: https://t/1 x\\nSee https://r/9 x";
+const AGAIN: &str =
+    "Depends-On: https://r/102?tab=comments\\ndepends-on:http://s/\\nDepends-On: https://t/1 x\\nSee https://r/9 x";
 
 #[test]
 fn footers_that_name_no_change_are_named(rt: HostRuntime) {

@@ -111,16 +111,7 @@ fn a_check_of_what_is_rejected_is_one_object(rt: HostRuntime) {
         r#"{"conditions":["reject /reject/gerrit/open open","reject /reject/gerrit/status status \"MERGED\" or \"ABANDONED\""],"warnings":[{"number":4,"name":"NeverMet","place":"/reject/gerrit/open"},{"number":4,"name":"NeverMet","place":"/reject/gerrit/status"}]}
 "#;
     let words = ["check", "gate", "--json"];
-    assert_prints(
-        &rt,
-        rt.alloc(),
-        words.as_slice(),
-        gate,
-        "",
-        0,
-        line,
-        "",
-    );
+    assert_prints(&rt, rt.alloc(), words.as_slice(), gate, "", 0, line, "");
 }
 
 #[test]
