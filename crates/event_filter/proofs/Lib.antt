@@ -8,5 +8,6 @@ pub mod Frames
 pub mod Truth
 pub mod Speaking
 pub mod Messages
+pub mod Marks
 pub mod Rows
 pub mod RowsRead

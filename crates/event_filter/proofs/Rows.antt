@@ -1,11 +1,11 @@
 -- What a row says is what the record says.
-use Rattle.std.specs.Prelude.{◌≡◌, ◌≢◌, ◌⊎◌, ◌||◌, ◌&&◌, ◌≤◌, int_le, ℕ, zero, suc, ℤ, pos, negsuc, Bool, true, false, List, [], ◌∷◌}
-use Rattle.std.specs.Prelude.{◌++◌, if◌then◌else◌, filter_map, flat_map, map, replicate, slice_get, Option, Some, None}
-use Rattle.std.specs.Prelude.{IfSome, codes, option_and_then, option_map}
+use Rattle.std.specs.Prelude.{◌≡◌, ◌≢◌, ◌⊎◌, ◌||◌, ◌&&◌, ◌≤◌, ◌<◌, ◌^◌, int_le, ℕ, zero, suc, ℤ, pos, negsuc, Bool}
+use Rattle.std.specs.Prelude.{true, false, List, [], ◌∷◌, ◌++◌, if◌then◌else◌, filter_map, flat_map, map, replicate}
+use Rattle.std.specs.Prelude.{slice_get, Option, Some, None, IfSome, codes, option_and_then, option_map}
 use Rattle.std.specs.Char.{to_ascii_lowercase}
 use Rattle.std.specs.List.{cons_option}
 use Rattle.std.specs.Str.{bytes_eq}
-use Rattle.std.proofs.Common.{refl, sym, ap, ◌∙◌, subst, inl, inr, append_assoc}
+use Rattle.std.proofs.Common.{refl, sym, ap, ◌∙◌, subst, inl, inr, append_assoc, arith}
 use Rattle.std.proofs.lemmas.Bool.{eqb-true, false≢true, leb-true}
 use Rattle.std.proofs.lemmas.List.{map-append}
 use Rattle.std.proofs.lemmas.Bool.Decides.{eqb_tells}
@@ -14,7 +14,7 @@ use Rattle.std.proofs.lemmas.Slice.Eq.{bytes_eq-Decides}
 use Rattle.serde_json.specs.Data.{Data}
 use Rattle.serde_json.specs.Find.{get}
 use Rattle.review_ops.specs.Deed.{Deed, abandon, merged, patch_set, restore, vote, withdraw, kept_deed}
-use Rattle.review_ops.specs.Good.{IsFaultless, IsGood}
+use Rattle.review_ops.specs.Good.{IsFaultless, IsGood, IsNumber}
 use Rattle.change_core.specs.Slots.{Slot}
 use Rattle.change_core.specs.Views.{status_of}
 use Rattle.change_core.specs.declared.life.Status.{Status}
@@ -25,7 +25,6 @@ use Rattle.gerrit_events.specs.declared.fault.EventKey.TheVariants.{By, DependsO
 use Rattle.gerrit_events.specs.declared.finding.Finding.{Finding}
 use Rattle.gerrit_events.specs.declared.kind.Kind.TheVariants.{QueryLine}
 use Rattle.gerrit_events.specs.declared.mark.Mark.{Mark}
-use Rattle.gerrit_events.specs.declared.mark.Mark.TheVariants.{WorkInProgress, Private, OutdatedParent}
 use Rattle.gerrit_events.specs.Claims.{Claim, drafts, lists, bad, brought_claims, claims_by, closing_claims}
 use Rattle.gerrit_events.specs.Claims.{closing_named, first_claims, is_zero, listed_claims, lost_footers, lost_parents}
 use Rattle.gerrit_events.specs.Claims.{mark_claim, older_by, older_claims, opening_claims, opening_named, query_claims}
@@ -44,8 +43,9 @@ use Rattle.gerrit_events.specs.Values.{listed_values, number_value, text_in, und
 use Rattle.gerrit_events.specs.Values.{within}
 use Rattle.event_filter.specs.Bringing.{IsSaidByRecord, is_ballot_of, is_listed_vote}
 use Rattle.event_filter.specs.Recorded.{HasPatch, IsRecorded, change_at, score_at}
-use Rattle.event_filter.specs.Rows.{HasStatus, IsApproval, IsFedRow, SaysRow}
+use Rattle.event_filter.specs.Rows.{HasStatus, IsApproval, IsFedRow, SaysMark, SaysRow, mark_score}
 use Rattle.event_filter.specs.Truth.{AgreesWithAll, DeedPlace, patch_place, place_written, score_place, status_place}
+use Rattle.event_filter.proofs.Marks.{last_mark, lower_mark, mark_faultless, mark_good, said_listed, silent_unlisted}
 use Rattle.event_filter.proofs.Messages.{kept_fits}
 use Rattle.event_filter.proofs.Truth.{one_slot}
 use Rattle.event_filter.proofs.Speaking.{AllOnly, Only, draft_said, only_append, only_weaker, unlisted_said}
@@ -128,11 +128,6 @@ votes_only line change set (approval ∷ approvals) = (
 
 -- ---- marks
 
-lower_mark : (mark : Mark) → map to_ascii_lowercase (mark_label mark) ≡ mark_label mark
-lower_mark WorkInProgress = refl
-lower_mark Private = refl
-lower_mark OutdatedParent = refl
-
 marks_only : (change set : ℕ) (marks : List Mark)
     → AllOnly (Marked change set marks) (map (mark_claim change set) marks)
 marks_only change set [] = tt
@@ -213,28 +208,35 @@ row_claims known choice line change set row =
     ∙ ap (with_change known QueryLine line) row.of_change
     ∙ ap (λ found. Closing line change ++ with_set known QueryLine line change found) row.of_set
 
+-- what follows the marks of the current patch set
+abbrev AfterMarks : Data → ℕ → ℕ → List Claim
+AfterMarks line change set =
+    flat_map (older_claims line change set) (listed_values (get (codes "patchSets") line))
+    ++ opening_claims change (status_part line)
+
+-- these marks, and what follows them
+abbrev FromMarks : Data → ℕ → ℕ → List Mark → List Claim
+FromMarks line change set marks = map (mark_claim change set) marks ++ AfterMarks line change set
+
 -- what follows the listing of the current patch set
 abbrev Rest : Data → ℕ → ℕ → List Claim
-Rest line change set =
-    map (mark_claim change set) (marks_in QueryLine line)
-    ++ (flat_map (older_claims line change set) (listed_values (get (codes "patchSets") line))
-    ++ opening_claims change (status_part line))
+Rest line change set = FromMarks line change set (marks_in QueryLine line)
 
--- a score of another patch set, one of the reserved voter, or the status
-abbrev Aside : Data → ℕ → ℕ → DeedPlace → Type 0
-Aside line change set place =
-    Marked change set (marks_in QueryLine line) place ⊎ (OtherSet change set place ⊎ OfStatus change place)
+-- a score of another patch set, one of the reserved voter for these marks, or the status
+abbrev Aside : ℕ → ℕ → List Mark → DeedPlace → Type 0
+Aside change set marks place = Marked change set marks place ⊎ (OtherSet change set place ⊎ OfStatus change place)
 
-rest_only : (line : Data) (change set : ℕ) → AllOnly (Aside line change set) (Rest line change set)
-rest_only line change set =
-    only_append (Aside line change set) (map (mark_claim change set) (marks_in QueryLine line)) _
-    (only_weaker (Marked change set (marks_in QueryLine line)) (Aside line change set) (λ place is. inl is) _
-    (marks_only change set (marks_in QueryLine line)))
-    (only_append (Aside line change set)
+aside_only : (line : Data) (change set : ℕ) (marks : List Mark)
+    → AllOnly (Aside change set marks) (FromMarks line change set marks)
+aside_only line change set marks =
+    only_append (Aside change set marks) (map (mark_claim change set) marks) _
+    (only_weaker (Marked change set marks) (Aside change set marks) (λ place is. inl is) _
+    (marks_only change set marks))
+    (only_append (Aside change set marks)
     (flat_map (older_claims line change set) (listed_values (get (codes "patchSets") line))) _
-    (only_weaker (OtherSet change set) (Aside line change set) (λ place is. inr (inl is)) _
+    (only_weaker (OtherSet change set) (Aside change set marks) (λ place is. inr (inl is)) _
     (olders_only line change set (listed_values (get (codes "patchSets") line))))
-    (only_weaker (OfStatus change) (Aside line change set) (λ place is. inr (inr is)) _
+    (only_weaker (OfStatus change) (Aside change set marks) (λ place is. inr (inr is)) _
     (opening_only change (status_part line))))
 
 -- ---- the commit
@@ -252,37 +254,43 @@ query_no_commit line change set = (
       (only_weaker (Listed change set (listed_values (approvals_part QueryLine line))) NoCommit
       (λ place is. score_no_commit place change _ is.2) _
       (votes_only line change set (listed_values (approvals_part QueryLine line))))
-      (only_weaker (Aside line change set) NoCommit
+      (only_weaker (Aside change set (marks_in QueryLine line)) NoCommit
       (λ place is. elim is [
         | inl marked ↦ score_no_commit place change _ marked.1
         | inr aside ↦ elim aside [
           | inl other ↦ score_no_commit place change other.0 other.1
           | inr of ↦ λ other_change other_set f. let clash : status_place change ≡ patch_place other_change other_set = of ∙ f in cc
         ]
-      ]) _ (rest_only line change set)),
+      ]) _ (aside_only line change set (marks_in QueryLine line))),
 )
 
--- ---- numbers begin at 1
+-- ---- numbers begin at 1, and have 32 bits
 
-within_low : (b c : Bool) (m n : ℕ) → option_map unsigned_of (if b && c then Some (pos m) else None) ≡ Some n
-    → (b ≡ true) × (m ≡ n)
-within_low true true m n e = (refl, cc)
-within_low true false m n e = cc
-within_low false c m n e = cc
+within_bounds : (b c : Bool) (m n : ℕ) → option_map unsigned_of (if b && c then Some (pos m) else None) ≡ Some n
+    → (b ≡ true) × (c ≡ true) × (m ≡ n)
+within_bounds true true m n e = (refl, refl, cc)
+within_bounds true false m n e = cc
+within_bounds false c m n e = cc
 
 low_one : (m : ℕ) → int_le (pos 1) (pos m) ≡ true → 1 ≤ m
 low_one m e = leb-true 1 m e
 
-from_one_by : (found : Option ℤ) (n : ℕ)
-    → option_map unsigned_of (option_and_then (within (pos 1) (pos 4294967295)) found) ≡ Some n → 1 ≤ n
-from_one_by None n e = cc
-from_one_by (Some (negsuc m)) n e = cc
-from_one_by (Some (pos m)) n e =
-    let parts = within_low (int_le (pos 1) (pos m)) (int_le (pos m) (pos 4294967295)) m n e in
-    subst (λ k. 1 ≤ k) parts.1 (low_one m parts.0)
+high_one : (m : ℕ) → int_le (pos m) (pos 4294967295) ≡ true → m < 2 ^ 32
+high_one m e = let high : m ≤ 4294967295 = leb-true m 4294967295 e in omega (arith, high)
+
+number_by : (found : Option ℤ) (n : ℕ)
+    → option_map unsigned_of (option_and_then (within (pos 1) (pos 4294967295)) found) ≡ Some n → IsNumber n
+number_by None n e = cc
+number_by (Some (negsuc m)) n e = cc
+number_by (Some (pos m)) n e =
+    let parts = within_bounds (int_le (pos 1) (pos m)) (int_le (pos m) (pos 4294967295)) m n e in
+    subst IsNumber parts.2 (record { from_one = low_one m parts.0; fits = high_one m parts.1 })
+
+value_is_number : (found : Option Data) (n : ℕ) → number_value found ≡ Some n → IsNumber n
+value_is_number found n e = number_by (option_and_then whole_in found) n e
 
 value_from_one : (found : Option Data) (n : ℕ) → number_value found ≡ Some n → 1 ≤ n
-value_from_one found n e = from_one_by (option_and_then whole_in found) n e
+value_from_one found n e = (value_is_number found n e).from_one
 
 first_from_one : (found : Option ℕ) (rest : List ℕ) → ((n : ℕ) → found ≡ Some n → 1 ≤ n)
     → IfSome (slice_get rest 0) (λ n. 1 ≤ n) → IfSome (slice_get (cons_option found rest) 0) (λ n. 1 ≤ n)
@@ -452,37 +460,44 @@ is_either a b label voter e =
       neither true y e = absurd (false≢true (sym e))
       neither false y e = (refl, e)
 
--- what follows doesn't speak of a score that isn't listed
-abbrev Spoken : Data → ℕ → ℕ → List Data → DeedPlace → Type 0
-Spoken line change set approvals place = Listed change set approvals place ⊎ Aside line change set place
+-- what follows the approvals doesn't speak of a score for which there is no mark
+unspoken_aside : (change set : ℕ) (marks : List Mark) (label voter : List ℕ)
+    → (voter ≡ reserved_voter → is_listed_vote (map mark_ballot marks) label voter ≡ false)
+    → ¬ Aside change set marks (score_place change (record { set = set; label = label; voter = voter }))
+unspoken_aside change set marks label voter unmarked aside = elim aside [
+  | inl marked ↦
+      let same_label : marked.0 ≡ label = ap (λ slot. slot.label) (one_slot marked.1) in
+      let same_voter : reserved_voter ≡ voter = ap (λ slot. slot.voter) (one_slot marked.1) in
+      false≢true (sym (unmarked (sym same_voter)) ∙ ap (λ l. is_listed_vote (map mark_ballot marks) l voter) (sym same_label) ∙ ap (is_listed_vote (map mark_ballot marks) marked.0) (sym same_voter) ∙ marked.2)
+  | inr more ↦ elim more [
+    | inl other ↦ other.2 (let e = other.1 in ap (λ s. s.set) (one_slot e))
+    | inr of ↦ let clash : status_place change ≡ score_place change (record { set = set; label = label; voter = voter }) = of in cc
+  ]
+]
 
-unspoken_score : (line : Data) (change set : ℕ) (approvals : List Data) (label voter : List ℕ)
+-- what follows doesn't speak of a score that isn't listed
+abbrev Spoken : ℕ → ℕ → List Mark → List Data → DeedPlace → Type 0
+Spoken change set marks approvals place = Listed change set approvals place ⊎ Aside change set marks place
+
+unspoken_score : (change set : ℕ) (marks : List Mark) (approvals : List Data) (label voter : List ℕ)
     → is_listed_vote (filter_map ballot_of approvals) label voter ≡ false
-    → (voter ≡ reserved_voter → is_listed_vote (mark_ballots line) label voter ≡ false)
-    → ¬ Spoken line change set approvals (score_place change (record { set = set; label = label; voter = voter }))
-unspoken_score line change set approvals label voter unlisted unmarked spoken = elim spoken [
+    → (voter ≡ reserved_voter → is_listed_vote (map mark_ballot marks) label voter ≡ false)
+    → ¬ Spoken change set marks approvals (score_place change (record { set = set; label = label; voter = voter }))
+unspoken_score change set marks approvals label voter unlisted unmarked spoken = elim spoken [
   | inl is ↦
       let same_label : is.0 ≡ label = ap (λ slot. slot.label) (one_slot is.2) in
       let same_voter : is.1 ≡ voter = ap (λ slot. slot.voter) (one_slot is.2) in
       false≢true (sym unlisted ∙ ap (λ l. is_listed_vote (filter_map ballot_of approvals) l voter) (sym same_label) ∙ ap (is_listed_vote (filter_map ballot_of approvals) is.0) (sym same_voter) ∙ is.3)
-  | inr aside ↦ elim aside [
-    | inl marked ↦
-        let same_label : marked.0 ≡ label = ap (λ slot. slot.label) (one_slot marked.1) in
-        let same_voter : reserved_voter ≡ voter = ap (λ slot. slot.voter) (one_slot marked.1) in
-        false≢true (sym (unmarked (sym same_voter)) ∙ ap (λ l. is_listed_vote (mark_ballots line) l voter) (sym same_label) ∙ ap (is_listed_vote (mark_ballots line) marked.0) (sym same_voter) ∙ marked.2)
-    | inr more ↦ elim more [
-      | inl other ↦ other.2 (let e = other.1 in ap (λ s. s.set) (one_slot e))
-      | inr of ↦ let clash : status_place change ≡ score_place change (record { set = set; label = label; voter = voter }) = of in cc
-    ]
-  ]
+  | inr aside ↦ unspoken_aside change set marks label voter unmarked aside
 ]
 
 after_listing : (line : Data) (change set : ℕ) (approvals : List Data)
-    → AllOnly (Spoken line change set approvals) (map (vote_claim QueryLine line change set) approvals ++ Rest line change set)
+    → AllOnly (Spoken change set (marks_in QueryLine line) approvals) (map (vote_claim QueryLine line change set) approvals ++ Rest line change set)
 after_listing line change set approvals =
-    only_append (Spoken line change set approvals) (map (vote_claim QueryLine line change set) approvals) (Rest line change set)
-    (only_weaker (Listed change set approvals) (Spoken line change set approvals) (λ place is. inl is) _ (votes_only line change set approvals))
-    (only_weaker (Aside line change set) (Spoken line change set approvals) (λ place is. inr is) _ (rest_only line change set))
+    let marks = marks_in QueryLine line in
+    only_append (Spoken change set marks approvals) (map (vote_claim QueryLine line change set) approvals) (Rest line change set)
+    (only_weaker (Listed change set approvals) (Spoken change set marks approvals) (λ place is. inl is) _ (votes_only line change set approvals))
+    (only_weaker (Aside change set marks) (Spoken change set marks approvals) (λ place is. inr is) _ (aside_only line change set marks))
 
 others_said : (known : List Revision) (choice : Choice) (line : Data) (change set : ℕ) (findings : List Finding)
     (new : State) → IsFedRow choice line change set → ClaimsAreSettled (claims_of known choice (line_kind line) line) findings
@@ -494,13 +509,13 @@ others_said known choice line change set findings new row settled all label vote
     unlisted_said (Closing line change ++ first_claims known QueryLine line)
     (record { change = change; set = set; ballots = ballots_in (approvals_part QueryLine line) ++ mark_ballots line })
     (vote_claims QueryLine line change set (approvals_part QueryLine line) ++ Rest line change set) findings new
-    (Spoken line change set (listed_values (approvals_part QueryLine line)))
+    (Spoken change set (marks_in QueryLine line) (listed_values (approvals_part QueryLine line)))
     (subst (λ claims. ClaimsAreSettled claims findings)
     (row_claims known choice line change set row
     ∙ sym (append_assoc (Closing line change) (first_claims known QueryLine line) (query_claims line change set)))
     settled) all label voter good
     unlisted (after_listing line change set (listed_values (approvals_part QueryLine line)))
-    (unspoken_score line change set (listed_values (approvals_part QueryLine line)) label voter parts.0 (λ same. parts.1))
+    (unspoken_score change set (marks_in QueryLine line) (listed_values (approvals_part QueryLine line)) label voter parts.0 (λ same. parts.1))
 
 -- ---- each approval
 
@@ -582,18 +597,69 @@ approval_said known choice line change set findings new row settled all before a
     ∙ ap (λ claim. first ++ ((head ∷ (map vc before ++ claim ∷ map vc after)) ++ Rest line change set)) (vote_claimed line change set approval label voter value is)
     ∙ approval_in_order first (map vc before) (map vc after) (Rest line change set) head (drafts (ballot_deed change set label voter value)) in
     ballot_scored new change set label voter value
-    (draft_said (first ++ head ∷ map vc before) (ballot_deed change set label voter value) (map vc after ++ Rest line change set) findings new (Spoken line change set after)
+    (draft_said (first ++ head ∷ map vc before) (ballot_deed change set label voter value) (map vc after ++ Rest line change set) findings new (Spoken change set (marks_in QueryLine line) after)
     (subst (λ claims. ClaimsAreSettled claims findings) ordered settled) all
     (ballot_faultless change set label voter value (is_zero value) good) (after_listing line change set after)
-    (subst (λ place. ¬ Spoken line change set after place) (sym (ballot_place change set label voter value (is_zero value)))
-    (unspoken_score line change set after (map to_ascii_lowercase label) voter last
+    (subst (λ place. ¬ Spoken change set (marks_in QueryLine line) after place) (sym (ballot_place change set label voter value (is_zero value)))
+    (unspoken_score change set (marks_in QueryLine line) after (map to_ascii_lowercase label) voter last
     (λ reserved. absurd (false≢true (sym is.real ∙ ap (λ v. bytes_eq v reserved_voter) reserved ∙ same_text reserved_voter))))))
+
+-- ---- each mark
+
+-- the vote for a mark
+abbrev mark_deed : ℕ → ℕ → List ℕ → Deed
+mark_deed change set label = vote change set label reserved_voter (negsuc 0)
+
+mark_in_order : (first list before after rest : List Claim) (claim : Claim)
+    → first ++ (list ++ ((before ++ claim ∷ after) ++ rest)) ≡ ((first ++ list) ++ before) ++ claim ∷ (after ++ rest)
+mark_in_order first list before after rest claim =
+    ap (λ claims. first ++ (list ++ claims)) (append_assoc before (claim ∷ after) rest)
+    ∙ sym (append_assoc first list (before ++ claim ∷ (after ++ rest)))
+    ∙ sym (append_assoc (first ++ list) before (claim ∷ (after ++ rest)))
+
+marked_said : (known : List Revision) (choice : Choice) (line : Data) (change set : ℕ) (findings : List Finding)
+    (new : State) → IsFedRow choice line change set → ClaimsAreSettled (claims_of known choice (line_kind line) line) findings
+    → AgreesWithAll findings new → IsNumber change → IsNumber set → (mark : Mark) → SaysMark line mark
+    → mark_score new change set mark ≡ negsuc 0
+marked_said known choice line change set findings new row settled all of_change of_set mark is =
+    let at = last_mark (marks_in QueryLine line) (mark_label mark) (said_listed line mark is) in
+    let mc = mark_claim change set in
+    let list = listed_claims change set line (approvals_part QueryLine line) (mark_ballots line) in
+    let first = Closing line change ++ first_claims known QueryLine line in
+    let label = map to_ascii_lowercase (mark_label mark) in
+    let ordered : claims_of known choice (line_kind line) line ≡ ((first ++ list) ++ map mc at.before) ++ drafts (mark_deed change set (mark_label mark)) ∷ FromMarks line change set at.after =
+    row_claims known choice line change set row
+    ∙ sym (append_assoc (Closing line change) (first_claims known QueryLine line) (query_claims line change set))
+    ∙ ap (λ marks. first ++ (list ++ FromMarks line change set marks)) at.order
+    ∙ ap (λ claims. first ++ (list ++ (claims ++ AfterMarks line change set))) (map-append mc at.before (at.mark ∷ at.after))
+    ∙ ap (λ name. first ++ (list ++ ((map mc at.before ++ drafts (mark_deed change set name) ∷ map mc at.after) ++ AfterMarks line change set))) at.here
+    ∙ mark_in_order first list (map mc at.before) (map mc at.after) (AfterMarks line change set) (drafts (mark_deed change set (mark_label mark))) in
+    let unmarked : is_listed_vote (map mark_ballot at.after) label reserved_voter ≡ false =
+    subst (λ name. is_listed_vote (map mark_ballot at.after) name reserved_voter ≡ false) (sym (lower_mark mark)) at.last in
+    elim (draft_said ((first ++ list) ++ map mc at.before) (mark_deed change set (mark_label mark)) (FromMarks line change set at.after) findings new (Aside change set at.after)
+    (subst (λ claims. ClaimsAreSettled claims findings) ordered settled) all
+    (mark_faultless change set mark of_change of_set) (aside_only line change set at.after)
+    (unspoken_aside change set at.after label reserved_voter (λ same. unmarked))) [
+      | inl said ↦
+          ap (λ name. score_at (change_at new change) (record { set = set; label = name; voter = reserved_voter })) (sym (lower_mark mark)) ∙ said
+      | inr moot ↦ absurd (moot tt)
+    ]
+
+unmarked_said : (known : List Revision) (choice : Choice) (line : Data) (change set : ℕ) (findings : List Finding)
+    (new : State) → IsFedRow choice line change set → ClaimsAreSettled (claims_of known choice (line_kind line) line) findings
+    → AgreesWithAll findings new → IsNumber change → IsNumber set → (mark : Mark) → ¬ SaysMark line mark
+    → mark_score new change set mark ≡ pos 0
+unmarked_said known choice line change set findings new row settled all of_change of_set mark silent =
+    others_said known choice line change set findings new row settled all (mark_label mark) reserved_voter
+    (mark_good change set mark of_change of_set) (silent_unlisted line mark silent)
 
 pub says : (known : List Revision) (choice : Choice) (line : Data) (change set : ℕ) (findings : List Finding)
     (new : State) → IsFedRow choice line change set → ClaimsAreSettled (claims_of known choice (line_kind line) line) findings
     → AgreesWithAll findings new → SaysRow known line change set new
 says known choice line change set findings new row settled all =
-    let one : 1 ≤ change = value_from_one (under (codes "number") (change_part QueryLine line)) change row.of_change in
+    let of_change = value_is_number (under (codes "number") (change_part QueryLine line)) change row.of_change in
+    let of_set = value_is_number (under (codes "number") (set_part QueryLine line)) set row.of_set in
+    let one : 1 ≤ change = of_change.from_one in
     record {
       commit = commit_said known choice line change set findings new row settled all;
       merged = λ is. elim (closing_said known choice line change set findings new row settled all (codes "MERGED") is (merged change) refl refl refl (record { change = one; set = tt; label = tt; voter = tt; message = tt; parent = tt })) [
@@ -610,4 +676,6 @@ says known choice line change set findings new row settled all =
       ];
       approvals = approval_said known choice line change set findings new row settled all;
       others = others_said known choice line change set findings new row settled all;
+      marked = marked_said known choice line change set findings new row settled all of_change of_set;
+      unmarked = unmarked_said known choice line change set findings new row settled all of_change of_set;
     }

@@ -1,10 +1,10 @@
 -- What a row of an answer says of its change, in the terms of Gerrit's JSON ("JSON Data"), and that a record says it.
-use Rattle.std.specs.Prelude.{◌≡◌, ◌⊎◌, ◌∷◌, ◌++◌, ℕ, ℤ, pos, List, true, false, filter_map, map, Some}
-use Rattle.std.specs.Prelude.{codes, slice_get}
+use Rattle.std.specs.Prelude.{◌≡◌, ◌⊎◌, ◌∷◌, ◌++◌, ℕ, ℤ, pos, negsuc, Any, Bool, List, true, false, filter_map, map}
+use Rattle.std.specs.Prelude.{Some, codes, option_and_then, slice_get}
 use Rattle.std.specs.Char.{to_ascii_lowercase}
 use Rattle.std.specs.Str.{bytes_eq}
 use Rattle.serde_json.specs.Data.{Data}
-use Rattle.serde_json.specs.Find.{get}
+use Rattle.serde_json.specs.Find.{as_bool, get}
 use Rattle.review_ops.specs.Deed.{vote, withdraw}
 use Rattle.review_ops.specs.Good.{IsFaultless, IsGood}
 use Rattle.change_core.specs.Views.{status_of}
@@ -12,9 +12,11 @@ use Rattle.change_core.specs.declared.life.Status.{Status}
 use Rattle.change_core.specs.declared.life.Status.TheVariants.{New, Abandoned, Merged}
 use Rattle.state_core.specs.State.{State}
 use Rattle.gerrit_events.specs.declared.kind.Kind.TheVariants.{QueryLine}
+use Rattle.gerrit_events.specs.declared.mark.Mark.{Mark}
+use Rattle.gerrit_events.specs.declared.mark.Mark.TheVariants.{WorkInProgress, Private, OutdatedParent}
 use Rattle.gerrit_events.specs.Kinds.{approvals_part, line_kind}
 use Rattle.gerrit_events.specs.Listings.{ballot_of, ballots_in, mark_ballots}
-use Rattle.gerrit_events.specs.Marks.{reserved_voter}
+use Rattle.gerrit_events.specs.Marks.{mark_label, reserved_voter}
 use Rattle.gerrit_events.specs.Messages.{kept_message}
 use Rattle.gerrit_events.specs.Patches.{change_in, message_in, parents_in, set_in}
 use Rattle.gerrit_events.specs.Projects.{Choice, feeds}
@@ -46,9 +48,26 @@ pub record IsApproval (approval : Data) (label voter : List ℕ) (value : ℤ) :
   pub real : bytes_eq voter reserved_voter ≡ false
   pub with_value : vote_value (get (codes "value") approval) ≡ Some value
 
+-- a member of an object is this truth value
+abbrev pub HasBool : Data → List ℕ → Bool → Type 0
+HasBool attribute key is = option_and_then as_bool (get key attribute) ≡ Some is
+
+-- the row says this of its change: it is a work in progress, it is private, or a patch set that it depends on isn't the
+-- current one of its change
+abbrev pub SaysMark : Data → Mark → Type 0
+SaysMark line WorkInProgress = HasBool line (codes "wip") true
+SaysMark line Private = HasBool line (codes "private") true
+SaysMark line OutdatedParent =
+    Any (λ parent. HasBool parent (codes "isCurrentPatchSet") false) (listed_values (get (codes "dependsOn") line))
+
+-- the reserved voter's score on a mark's label
+abbrev pub mark_score : State → ℕ → ℕ → Mark → ℤ
+mark_score state change set mark =
+    score_at (change_at state change) (record { set = set; label = mark_label mark; voter = reserved_voter })
+
 -- the record says of the change what the row says: the commit of the current patch set, with what is kept of its
--- message; the status; each approval of the current patch set, of two of one voter on one label the last one; and nobody
--- else has a score on it
+-- message; the status; each approval of the current patch set, of two of one voter on one label the last one; nobody
+-- else has a score on it; and for each mark the reserved voter's -1, exactly if the row says it
 pub record SaysRow (known : List Revision) (line : Data) (change set : ℕ) (state : State) : Type 0 where
   pub commit : (message : List ℕ) → message_in QueryLine line ≡ Some message
       → HasPatch (change_at state change) set
@@ -66,3 +85,5 @@ pub record SaysRow (known : List Revision) (line : Data) (change set : ℕ) (sta
   pub others : (label voter : List ℕ) → IsGood (withdraw change set label voter)
       → is_listed_vote (ballots_in (approvals_part QueryLine line) ++ mark_ballots line) label voter ≡ false
       → score_at (change_at state change) (record { set = set; label = label; voter = voter }) ≡ pos 0
+  pub marked : (mark : Mark) → SaysMark line mark → mark_score state change set mark ≡ negsuc 0
+  pub unmarked : (mark : Mark) → ¬ SaysMark line mark → mark_score state change set mark ≡ pos 0

@@ -48,8 +48,9 @@ pub fn what_is_nothing_new_brings_nothing()
 /// A law: a row of an answer is the truth on its change. Once it was read, and what was found in it is met, one finding
 /// after the other, under stamps above those before, the record says of the change what the row says, in the terms of
 /// Gerrit's JSON: the commit of the current patch set, the status (a merged change stays merged), each approval of the
-/// current patch set, and that nobody else has a score on it. This holds whatever was met before these findings,
-/// such as the votes that `against_first` puts first.
+/// current patch set, that nobody else has a score on it, and whether the change is a work in progress, is private or
+/// depends on an outdated patch set. This holds whatever was met before these findings, such as the votes that
+/// `against_first` puts first.
 pub fn what_a_row_says_is_what_the_record_says()
     ensures { (known after : List Revision) → (choice : Choice) → (text : List ℕ) → (parsed : ParsedLine)
         → Reads known choice text parsed after → (members : Members) → IsLineObject text members
