@@ -386,7 +386,7 @@ impl Taker for Counting {
         Ok(())
     }
 
-    fn take(&mut self, number: u64, _told: ParsedLine) -> Result<(), FeedFault> {
+    fn take(&mut self, number: u64, _parsed: ParsedLine) -> Result<(), FeedFault> {
         self.lines = number;
         if number == self.last_line {
             return Err(FeedFault::NoSite);
