@@ -48,7 +48,7 @@ handed_more : (held : ReadySoFar) (groups : List LineGroup) (group : LineGroup)
 handed_more held [] group = append-nil (fresh held (ready_then held.ready group))
 handed_more held (first ∷ later) group =
     ap (λ items. fresh held (ready_then held.ready first) ++ items)
-        (handed_more (ready_first (ready_then held.ready first)) later group)
+    (handed_more (ready_first (ready_then held.ready first)) later group)
     ∙ sym (append_assoc (fresh held (ready_then held.ready first)) (handed_by (ready_first (ready_then held.ready first)) later)
     (fresh (held_after (ready_first (ready_then held.ready first)) later)
     (ready_then (held_after (ready_first (ready_then held.ready first)) later).ready group)))
@@ -256,9 +256,9 @@ module _ (pipe : Pipe) (earlier : List Item) (before now : KnownEnds) (rest : Li
       ap (λ items. report_lines pipe (handed_by (starting earlier) so.groups) ++ report_lines pipe items) fresh_is
       ∙ sym (ap (report_lines pipe) all ∙ flat_map-append (report_line pipe) (handed_by (starting earlier) so.groups) (fresh was (ready_then was.ready handed.group))) in
       let both = written_on (item_lines pipe (handed_by (starting earlier) so.groups))
-          (item_lines pipe (fresh held (ready_then held.ready handed.group)))
+      (item_lines pipe (fresh held (ready_then held.ready handed.group)))
       (report_lines pipe (handed_by (starting earlier) so.groups))
-          (report_lines pipe (fresh held (ready_then held.ready handed.group)))
+      (report_lines pipe (fresh held (ready_then held.ready handed.group)))
       before.outputs now.outputs next.outputs so.written handed.written in
       let say = say_more so.groups handed.group in
       let parsed = length-append (all_say so.groups) (group_says handed.group) in
@@ -395,7 +395,7 @@ pub group_lacking : (pipe : Pipe) (limit : ℕ) (bytes rest : List ℕ) (kept : 
 group_lacking pipe limit bytes rest kept count number numbered old new before after (Ok more) comes end plain unread quiet ended refused =
     let none : comes.lines ≡ [] = no_lines comes.lines (omega (arith, comes.counted, ended.1)) in
     subst (λ (m : Bool). HandsGroup pipe limit bytes rest number numbered old new before after (Ok m)) (sym ended.0)
-        (record {
+    (record {
       says = subst (λ r. SaysLines bytes r []) ended.2 (subst (SaysLines bytes rest) none comes.says);
       end = end;
       none_unread = unread;

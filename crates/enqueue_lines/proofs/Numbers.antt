@@ -48,7 +48,7 @@ cut_so byte front rest text (Some parts) cuts small lacks is =
 pub lacks_digits : (byte number : ℕ) → number < 2 ^ 64 → byte < 48 → LacksByte byte (decimal number)
 lacks_digits byte number fits small =
     not_in_digits (numerals_by_value (AllDigits 10) tells_digits) (decimal number) byte
-        (decimal_is_IsNumeral number fits).0.1
+    (decimal_is_IsNumeral number fits).0.1
     (λ within. omega (arith, within.0))
 
 -- ---- numbers
@@ -77,7 +77,7 @@ ascii_word Nothing = ascii_tested (codes " ") refl
 pub ascii_item : (item : Item) → IsShortItem item → IsAscii (item_text item)
 ascii_item item short =
     IsAscii-append _ _
-        (IsAscii-append _ _ (IsAscii-decimal item.change (omega (arith, short.change))) (ascii_tested (codes ",") refl))
+    (IsAscii-append _ _ (IsAscii-decimal item.change (omega (arith, short.change))) (ascii_tested (codes ",") refl))
     (IsAscii-decimal item.set (omega (arith, short.set)))
 
 ascii_rest : (parsed : SiteLine) → NumbersFit parsed → IsAscii (rest_of parsed)

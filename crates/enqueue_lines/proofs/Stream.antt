@@ -274,4 +274,4 @@ pub no_stop : (parsed : SiteLine) (kept now : List SiteLine) (result : Result St
     → IfOk result (KeepsSiteLine parsed kept now) → ¬ (result ≡ Ok Stops)
 no_stop parsed kept now result keeps is =
     stops_not parsed kept now
-        (subst (λ (r : Result Step EnqueueFault). IfOk r (KeepsSiteLine parsed kept now)) is keeps)
+    (subst (λ (r : Result Step EnqueueFault). IfOk r (KeepsSiteLine parsed kept now)) is keeps)

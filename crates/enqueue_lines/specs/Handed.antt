@@ -19,6 +19,6 @@ IsNoItem number line fault = fault ≡ NoMemory
 abbrev pub IsRefusedHanded : List (List ℕ) → EnqueueFault → Type 0
 IsRefusedHanded lines (BadHanded number) =
     (line : List ℕ) × (0 < number) × (slice_get lines (number - 1) ≡ Some line)
-        × IsNoItem number line (BadHanded number)
+    × IsNoItem number line (BadHanded number)
     × (items : List Item) × AllZip IsItemLine (take (number - 1) lines) items
 IsRefusedHanded lines fault = fault ≡ NoMemory

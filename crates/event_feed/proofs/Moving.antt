@@ -75,7 +75,7 @@ module _ {Taker : Type 0} (takes : Taker → ℕ → ParsedLine → Result (Unit
         handed_over input choice limit number old new piece h.0 (found_turn h.0 h.1) result h.2
     line_move result (inr h) =
         refused_memory input choice limit number old new came
-            (record { consumed = consumed; none_failed = none_failed })
+        (record { consumed = consumed; none_failed = none_failed })
         h.1 h.2 h.3 result h.0
 
   -- ---- a line that is too long

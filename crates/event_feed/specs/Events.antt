@@ -73,4 +73,4 @@ module _ {Writer : Type 0} (shown : Writer → Outputs) where
       → Result (Unit {0}) FeedFault → Type 0
   RunsEvents input choice left unread old left' unread' new result =
       IsUngreeted left unread old left' unread' new result
-          ⊎ IsGreeted input choice left unread old left' unread' new result
+      ⊎ IsGreeted input choice left unread old left' unread' new result

@@ -152,8 +152,12 @@ module _ {Taker : Type 0} (takes : Taker → ℕ → ParsedLine → Result (Unit
 -- nothing is held of a source, known or begun
 abbrev pub feed_begun : {Taker : Type 0} → Option (List ℕ) → ℕ → Taker → Standing Taker
 feed_begun left failed taker =
-    record { source = record { left = left; failed = failed; held = [] }; known = []; progress = Unbegun;
-        taker = taker }
+    record {
+      source = record { left = left; failed = failed; held = [] };
+      known = [];
+      progress = Unbegun;
+      taker = taker;
+    }
 
 -- ---- the whole feed
 
@@ -170,7 +174,7 @@ module _ {Taker : Type 0} (rests : Taker → Result (Unit {0}) FeedFault → Tak
   abbrev pub Stops : Input → Choice → ℕ → ℕ → Standing Taker → Standing Taker → Result (Unit {0}) FeedFault → Type 0
   Stops input choice limit number old new (Ok done) =
       (waiting : Taker) × Waits rests old.source.held old.taker waiting
-          × IsEnd takes input number (with_taker old waiting) new (Ok tt)
+      × IsEnd takes input number (with_taker old waiting) new (Ok tt)
   Stops input choice limit number old new (Err fault) =
       IsUnrested rests old new fault
       ⊎ ((waiting : Taker) × Waits rests old.source.held old.taker waiting

@@ -66,7 +66,7 @@ IsOutdated state deed number = ⊥
 abbrev pub IsAskedByNews : State → Option (List (List ℕ)) → Deed → ℕ → Type 0
 IsAskedByNews state bases deed number =
     IsNew state deed
-        × ((number ≡ change_of deed) ⊎ (LacksNeeded state bases deed number ⊎ IsOutdated state deed number))
+    × ((number ≡ change_of deed) ⊎ (LacksNeeded state bases deed number ⊎ IsOutdated state deed number))
 
 -- no vote is shown, where the record has one: whether it was taken back only Gerrit can say
 abbrev pub IsDoubtful : State → Deed → Type 0

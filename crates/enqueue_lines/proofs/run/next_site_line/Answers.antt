@@ -10,6 +10,6 @@ returns-in-Ok-true-clause-moves g c =
       came.1,
       line_next (c.args.reader.now.held ++ came.0) c.next_line.new.self.held c.line.result.now c.args.reader.now.limit
           c.args.number (g.S.Source.failed c.args.source.now)
-              (g.S.Source.failed c.next_line.new.source) c.site_line_in.result
+          (g.S.Source.failed c.next_line.new.source) c.site_line_in.result
           (line.0, line.1, c.line.ensures ∙ line.2) c.site_line_in.ensures.parsed c.site_line_in.ensures.refused c.in-Ok-true.ensures.counted,
     )

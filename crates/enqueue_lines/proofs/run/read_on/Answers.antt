@@ -14,7 +14,7 @@ returns-in-Ok-Some-clause-moves g c =
       moves.1,
       line_taken c.args.reader.now.limit bytes c.next_site_line.new.reader.held c.args.coming.now.lines.items
           c.keep.new.coming.lines.items c.args.number (g.S.Source.failed c.args.source.now)
-              (g.S.Source.failed c.next_site_line.new.source)
+          (g.S.Source.failed c.next_site_line.new.source)
           c.in-Ok-Some.parsed c.keep.result says moves.2.1 c.keep.ensures.kept c.keep.ensures.fault,
     )
 

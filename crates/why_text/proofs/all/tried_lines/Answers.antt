@@ -9,4 +9,4 @@ loop-one-preserved c =
     let inside : c.loop-one.one-index < length c.args.tried.now = search rules in
     let grown : string_bytes c.push_str.new.self ≡ string_bytes c.loop-one.text ++ string_bytes c.in_ok-more.more = search rules in
     each_more writes c.args.tried.now c.loop-one.one-index _ _ _ _ inside
-        (search rules) c.loop-one.invariant c.in_ok-more.ensures grown
+    (search rules) c.loop-one.invariant c.in_ok-more.ensures grown
