@@ -8,17 +8,16 @@ ghost use Rattle.state_core.specs.State.{state_of};
 
 use super::arrivals::{Arrivals, Iter};
 use super::arriving::{Later, arrive};
-use super::joining::Joining;
+use super::joiner::{EffectJoiner, move_each, take_each};
 use super::line::Line;
 use super::replica::Replica;
 use super::taken::Taken;
 use chunk_list::ChunkList;
 use lattice_core::NoMemory;
-use review_ops::{Body, Draft, Op};
+use review_ops::Op;
 use state_core::State;
 use std::alloc::{Allocator, Global};
 use std::marker::Model;
-use std::mem;
 
 /// A replica to which many operations are added before its state is needed: `take` adds each to the journal only, and
 /// `joined` joins all effects at the end, change by change. Contracts see the arrivals, as those of a replica.
@@ -120,16 +119,12 @@ impl<A: Allocator + Copy> Gathering<A> {
             arrivals,
             lines,
             latest,
-            mut state,
+            state,
             joined,
             alloc,
         } = self;
-        join_later(
-            &mut state,
-            alloc,
-            arrivals.since(joined),
-            arrivals.len() - joined,
-        )?;
+        let later = arrivals.since(joined);
+        let state = join_later(alloc, state, later, arrivals.len() - joined)?;
         Ok(Replica {
             arrivals,
             lines,
@@ -156,26 +151,96 @@ impl<A: Allocator + Copy> Gathering<A> {
         drop(lines);
         let mut arrivals = arrivals.into_vec(alloc)?;
         let came = arrivals.as_mut_slice().split_at_mut(joined).1;
-        let state = consume_later(state, alloc, came)?;
+        let state = consume_later(alloc, state, came)?;
         Ok(state)
     }
 }
 
-/// Joins the effects of operations into the state of those before, change by change. Where memory is refused some of
-/// them are joined, not all.
+impl Gathering {
+    /// The replica of the gathered journal, as `joined` gives it; `joiner` joins the effects.
+    pub fn joined_by<J: EffectJoiner>(self, joiner: &J) -> Result<Replica, NoMemory>
+        ensures { IfOk result (λ replica. replica ≡ self) }
+    {
+        let Gathering {
+            arrivals,
+            lines,
+            latest,
+            state,
+            joined,
+            alloc,
+        } = self;
+        let later = arrivals.since(joined);
+        let state = join_later_by(joiner, alloc, state, later, arrivals.len() - joined)?;
+        Ok(Replica {
+            arrivals,
+            lines,
+            latest,
+            state,
+            alloc,
+        })
+    }
+
+    /// The state of the gathered journal, as `into_state` gives it; `joiner` joins the effects.
+    pub fn into_state_by<J: EffectJoiner>(self, joiner: &J) -> Result<State, NoMemory>
+        ensures { IfOk result (λ state. state ≡ state_of self) }
+    {
+        let Gathering {
+            arrivals,
+            lines,
+            latest: _,
+            state,
+            joined,
+            alloc,
+        } = self;
+        drop(lines);
+        let mut arrivals = arrivals.into_vec(alloc)?;
+        let came = arrivals.as_mut_slice().split_at_mut(joined).1;
+        let state = consume_later_by(joiner, alloc, state, came)?;
+        Ok(state)
+    }
+}
+
+/// Joins the effects of operations into the state of those before, change by change, by this joiner.
+fn join_later_by<J: EffectJoiner>(
+    joiner: &J,
+    alloc: Global,
+    state: State,
+    ops: Iter<'_>,
+    room: usize,
+) -> Result<State, NoMemory>
+    ensures { IfOk result (λ joined. (before : List Operation) → state ≡ state_of before
+        → joined ≡ state_of (before ++ ops.entry)) }
+{
+    let sorted = by_change(alloc, ops, room)?;
+    joiner.join_effects(alloc, state, sorted.as_slice())
+}
+
+/// Joins the effects of operations into the state of those before, change by change, with their texts, by this joiner.
+fn consume_later_by<J: EffectJoiner>(
+    joiner: &J,
+    alloc: Global,
+    state: State,
+    ops: &mut [Op],
+) -> Result<State, NoMemory>
+    ensures { IfOk result (λ joined. (before : List Operation) → state ≡ state_of before
+        → joined ≡ state_of (before ++ ops.old)) }
+{
+    let sorted = each_by_change(alloc, ops)?;
+    joiner.consume_effects(alloc, state, sorted)
+}
+
+/// Joins the effects of operations into the state of those before, change by change.
 fn join_later<A: Allocator + Copy>(
-    state: &mut State<A>,
     alloc: A,
+    state: State<A>,
     ops: Iter<'_, A>,
     room: usize,
-) -> Result<(), NoMemory>
-    ensures { OnOk result ((before : List Operation) → state.old ≡ state_of before
-        → state.new ≡ state_of (before ++ ops.entry)) }
+) -> Result<State<A>, NoMemory>
+    ensures { IfOk result (λ joined. (before : List Operation) → state ≡ state_of before
+        → joined ≡ state_of (before ++ ops.entry)) }
 {
-    for (_, op) in &by_change(alloc, ops, room)? {
-        state.take(op)?;
-    }
-    Ok(())
+    let sorted = by_change(alloc, ops, room)?;
+    take_each(state, sorted.as_slice())
 }
 
 /// References to the operations, sorted by change, in a vector of this capacity.
@@ -196,19 +261,15 @@ fn by_change<'a, A: Allocator + Copy>(
 
 /// Joins the effects of operations into the state of those before, change by change, with their texts.
 fn consume_later<A: Allocator + Copy>(
-    state: State<A>,
     alloc: A,
+    state: State<A>,
     ops: &mut [Op<A>],
 ) -> Result<State<A>, NoMemory>
     ensures { IfOk result (λ joined. (before : List Operation) → state ≡ state_of before
         → joined ≡ state_of (before ++ ops.old)) }
 {
-    let mut joining = Joining::new(alloc, state, ops.len())?;
-    for (_, op) in each_by_change(alloc, ops)? {
-        joining.add(taken_out(op))?;
-    }
-    let joined = joining.end()?;
-    Ok(joined)
+    let sorted = each_by_change(alloc, ops)?;
+    move_each(alloc, state, sorted)
 }
 
 /// Mutable references to the operations in the order of their changes.
@@ -224,16 +285,4 @@ fn each_by_change<A: Allocator + Copy>(
     }
     sorted.sort_unstable_by_key(|one| one.0);
     Ok(sorted)
-}
-
-/// Moves an operation out of a journal that is about to be dropped, and leaves one without texts in its place.
-fn taken_out<A: Allocator + Copy>(op: &mut Op<A>) -> Op<A>
-    ensures { result ≡ op.old }
-{
-    let change = op.body().change();
-    let Ok(body) = Body::checked(Draft::Abandon { change }) else {
-        unreachable!()
-    };
-    let stamp = op.stamp();
-    mem::replace(op, Op::new(stamp, body))
 }

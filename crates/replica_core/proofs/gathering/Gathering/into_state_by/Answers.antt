@@ -1,7 +1,7 @@
 use Rattle.std.proofs.Common.{◌∙◌, ◌++◌, ap, take, drop}
 use Rattle.std.proofs.lemmas.List.{take-append-drop}
 use Rattle.state_core.specs.State.{state_of}
-use Rattle.replica_core.proofs.gathering.Gathering.into_state.Goals as goal
+use Rattle.replica_core.proofs.gathering.Gathering.into_state_by.Goals as goal
 
 pub returns : goal.returns
 returns g c =
