@@ -7,4 +7,6 @@ mod asserts;
 #[cfg(test)]
 mod batches;
 #[cfg(test)]
+mod effects;
+#[cfg(test)]
 mod texts;

@@ -1,10 +1,16 @@
-//! How the operations of many lines are read at once.
+//! How the operations of many lines are read, and their effects joined, at once.
 
-ghost use Rattle.std.specs.Prelude.{◌<◌, ◌≤◌, IfSome};
+ghost use Rattle.std.specs.Prelude.{◌≡◌, ◌++◌, ◌<◌, ◌≤◌, IfOk, IfSome, List, map};
 ghost use Rattle.line_batches.specs.Batches.{IsBatch};
+ghost use Rattle.review_ops.specs.Operation.{Operation};
+ghost use Rattle.state_core.specs.State.{state_of};
 
+use super::parts::{consume_parts, join_parts, joined};
 use super::reading::{read_in_turn, read_parts};
+use lattice_core::NoMemory;
+use replica_core::EffectJoiner;
 use review_ops::Op;
+use state_core::State;
 use std::alloc::Global;
 use std::thread::Threads;
 
@@ -17,11 +23,15 @@ const LARGE: usize = 1_048_576;
 /// The fewest bytes that are worth threads: 128 KiB.
 const LEAST: usize = 131_072;
 
-/// In how many parts lines are read side by side.
+/// The fewest operations whose effects are worth threads.
+const FEWEST: usize = 16_384;
+
+/// In how many parts lines are read and effects joined side by side.
 const PARTS: usize = 4;
 
-/// Reads the operations of many lines at once, or leaves them to be read one by one.
-pub trait Batches {
+/// Reads the operations of many lines at once, or leaves them to be read one by one; and joins the effects of many
+/// operations.
+pub trait Batches: EffectJoiner {
     /// How many bytes it wants at once, from 1 to 1 MiB.
     fn size(&self) -> usize
         ensures { (0 < result) × (result ≤ 1048576) };
@@ -33,9 +43,11 @@ pub trait Batches {
         ensures { IfSome result (λ ops. IsBatch lines.now ops.items) };
 }
 
-/// Leaves all lines to be read one by one.
+/// Leaves all lines to be read one by one, and joins effects in the thread that calls.
 #[derive(Clone, Copy)]
 pub struct OneByOne;
+
+impl EffectJoiner for OneByOne {}
 
 impl Batches for OneByOne {
     fn size(&self) -> usize {
@@ -47,7 +59,7 @@ impl Batches for OneByOne {
     }
 }
 
-/// Reads lines by four threads side by side.
+/// Reads lines and joins effects by four threads side by side.
 #[derive(Drop)]
 pub struct SideBySide<R: Drop> {
     rt: R,
@@ -70,5 +82,33 @@ impl<R: Threads + Drop> Batches for SideBySide<R> {
             return read_in_turn(alloc, lines);
         }
         read_parts(&self.rt, alloc, lines, PARTS)
+    }
+}
+
+impl<R: Threads + Drop> EffectJoiner for SideBySide<R> {
+    fn join_effects(
+        &self,
+        alloc: Global,
+        state: State,
+        ops: &[(u32, &Op)],
+    ) -> Result<State, NoMemory> {
+        if ops.len() < FEWEST {
+            return OneByOne.join_effects(alloc, state, ops);
+        }
+        let more = join_parts(&self.rt, alloc, ops, PARTS)?;
+        joined(state, more)
+    }
+
+    fn consume_effects(
+        &self,
+        alloc: Global,
+        state: State,
+        ops: Vec<(u32, &mut Op)>,
+    ) -> Result<State, NoMemory> {
+        if ops.len() < FEWEST {
+            return OneByOne.consume_effects(alloc, state, ops);
+        }
+        let more = consume_parts(&self.rt, alloc, ops, PARTS)?;
+        joined(state, more)
     }
 }

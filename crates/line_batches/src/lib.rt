@@ -1,4 +1,4 @@
-//! Reads the operations of many whole lines in parallel threads.
+//! Reads the operations of many whole lines, and joins their effects, in parallel threads.
 //!
 //! Its tests are in the crate `batch_tests`.
 //!
@@ -21,6 +21,7 @@
 
 mod batches;
 mod cuts;
+mod parts;
 mod reading;
 
 pub use batches::{Batches, OneByOne, SideBySide};

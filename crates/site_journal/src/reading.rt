@@ -36,7 +36,7 @@ pub enum Found {
     Lines(Replica, u64, usize),
 }
 
-/// Reads a journal to its end, its lines in batches.
+/// Reads a journal to its end, its lines in batches, which join the effects, too.
 pub fn read_text<B: Batches, F: Feed>(
     alloc: Global,
     batches: &B,
@@ -153,7 +153,7 @@ fn read_lines<B: Batches, F: Feed>(
     let mut seen = 13u64;
     while seen <= TEXT_LIMIT {
         match reading.read_block(batches, feed, piece.as_mut_slice())? {
-            0 => return reading.found(seen),
+            0 => return reading.found(batches, seen),
             count => seen = seen.saturating_add(count as u64),
         }
     }
@@ -184,7 +184,7 @@ impl Reading {
     }
 
     /// What was found, where so many bytes came in all.
-    fn found(self, seen: u64) -> Result<Found, JournalFault>
+    fn found<B: Batches>(self, batches: &B, seen: u64) -> Result<Found, JournalFault>
         requires { length self.held.items ≤ seen }
         ensures found { IfOk result (λ found. (came : List ℕ) → HasRead came self.gathering self.held.items self.next
             → length came ≡ seen → IsFoundText came found) }
@@ -196,7 +196,7 @@ impl Reading {
             ..
         } = self;
         let torn = held.as_slice().len();
-        Ok(Found::Lines(gathering.joined()?, seen - torn as u64, torn))
+        Ok(Found::Lines(gathering.joined_by(batches)?, seen - torn as u64, torn))
     }
 
     /// Reads some bytes, and what they say. 0 is the end.
