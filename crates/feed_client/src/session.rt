@@ -159,8 +159,12 @@ impl<'a, R: Wait + Clock> Session<'a, R> {
 
     /// Asks for a round, and reads it.
     fn read_round(&mut self) -> Result<Missing, IntakeFault> {
-        let asked = send_front(self.alloc, &mut self.drain, &self.front);
-        asked.map_err(line_fault)?;
+        match send_front(self.alloc, LINE_LIMIT, &mut self.drain, &self.front) {
+            Ok(()) => {}
+            // No pull can name where the record ends.
+            Err(LineFault::LongLine) => return Err(IntakeFault::NoEnd),
+            Err(fault) => return Err(line_fault(fault)),
+        }
         read_round(self.alloc, &mut self.reader, &mut self.source).map_err(line_fault)
     }
 

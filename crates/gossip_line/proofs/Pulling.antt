@@ -118,7 +118,8 @@ module _ {K : Type 0} (sinks : K → Offer → Uptake → K → Type 0) where
       → sinks mid.port fronts (reached front) after.port → Consumes mid.left after.left came
       → BreaksPull limit (held ++ came) after.left fault → Appends mid.taken after.taken (front_line front)
       → Leaves sinks limit mid held fault after
-  broken_left limit mid after held came front line.LongLine says read h asked = (front, came, says, read, h, asked)
+  broken_left limit mid after held came front line.LongLine says read h asked =
+      inr (front, came, says, read, h, asked)
   broken_left limit mid after held came front line.BadAnswer says read h asked = (front, came, says, read, h, asked)
   broken_left limit mid after held came front line.ReadFault says read h asked = (front, came, says, read, h, asked)
   broken_left limit mid after held came front line.NoMemory says read h asked =
@@ -132,13 +133,15 @@ module _ {K : Type 0} (sinks : K → Offer → Uptake → K → Type 0) where
     pub counts : CountsEnds mid.unread after.unread mid.unwritten after.unwritten fault
 
   pub front_failed : (limit : ℕ) (mid after : Moment K) (held : List ℕ) (front : Reaches) (fault : LineFault)
-      → SendsFront front mid.taken after.taken mid.unwritten after.unwritten (Err fault)
+      → SendsFront limit front mid.taken after.taken mid.unwritten after.unwritten (Err fault)
       → after.unread ≡ mid.unread → after.left ≡ mid.left → sinks mid.port fronts (reached front) after.port
       → IsRoundFailed limit mid held fault after
   front_failed limit mid after held front line.WriteFault h same unread says =
       record { leaves = (front, says, unread, h); counts = (same, h.one_failed) }
   front_failed limit mid after held front line.NoMemory h same unread says =
       record { leaves = inl (front, says, h.0); counts = (same, h.1) }
+  front_failed limit mid after held front line.LongLine h same unread says =
+      record { leaves = inl (front, says, h.0, h.1, unread); counts = (same, h.2) }
   front_failed limit mid after held front fault h same unread says = absurd h
 
   pub declined_failed : (limit : ℕ) (mid after : Moment K) (held : List ℕ) (why : SinkFault) (fault : LineFault)

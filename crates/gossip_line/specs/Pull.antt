@@ -1,5 +1,5 @@
 -- A pull: in each round the sink's front is written, a whole answer is read, and its operations are handed to the sink.
-use Rattle.std.specs.Prelude.{◌≡◌, ◌≢◌, ◌⊎◌, ◌≤◌, ◌<◌, ℕ, Bool, true, false, List, [], ◌∷◌, ◌++◌, Option, Result, Ok}
+use Rattle.std.specs.Prelude.{◌≡◌, ◌≢◌, ◌⊎◌, ◌≤◌, ◌<◌, ◌+◌, ℕ, Bool, true, false, List, [], ◌∷◌, ◌++◌, Option, Result, Ok}
 use Rattle.std.specs.Prelude.{Err, codes, flat_map, length, map, sum_by, take, if◌then◌else◌}
 use Rattle.std.specs.List.{AllByRecursion}
 use Rattle.std.specs.Io.KnownBytes.{Appends, Consumes, IsAtEnd}
@@ -166,13 +166,19 @@ ReadsAnswer old came left (Ok missing) new =
     × (old.held ++ came ≡ (bytes_in lines ++ as_line last) ++ new.held)
 ReadsAnswer old came left (Err fault) new = BreaksPull old.limit (old.held ++ came) left fault
 
--- the front's line is written, or memory is refused for it before its first byte
-abbrev pub SendsFront : Reaches → Option (List ℕ) → Option (List ℕ) → ℕ → ℕ → Result (Unit {0}) LineFault → Type 0
-SendsFront front taken later failed failures (Ok done) = IsWritten (front_line front) taken later failed failures
-SendsFront front taken later failed failures (Err WriteFault) =
+-- the line of the front has more bytes before its LF than this
+abbrev pub IsOverlong : ℕ → Reaches → Type 0
+IsOverlong limit front = limit + 1 < length (front_line front)
+
+-- the front's line is written; or it is too long, or memory is refused for it, before its first byte
+abbrev pub SendsFront : ℕ → Reaches → Option (List ℕ) → Option (List ℕ) → ℕ → ℕ → Result (Unit {0}) LineFault → Type 0
+SendsFront limit front taken later failed failures (Ok done) = IsWritten (front_line front) taken later failed failures
+SendsFront limit front taken later failed failures (Err WriteFault) =
     AnswerIsCutShort (front_line front) taken later failed failures
-SendsFront front taken later failed failures (Err NoMemory) = (later ≡ taken) × (failures ≡ failed)
-SendsFront front taken later failed failures (Err fault) = ⊥
+SendsFront limit front taken later failed failures (Err NoMemory) = (later ≡ taken) × (failures ≡ failed)
+SendsFront limit front taken later failed failures (Err LongLine) =
+    IsOverlong limit front × (later ≡ taken) × (failures ≡ failed)
+SendsFront limit front taken later failed failures (Err fault) = ⊥
 
 -- why the version isn't named back
 abbrev pub IsUngreeted : ℕ → List ℕ → Option (List ℕ) → LineFault → Type 0
@@ -252,6 +258,12 @@ module _ {K : Type 0} (sinks : K → Offer → Uptake → K → Type 0) where
       (front : Reaches) × sinks mid.port fronts (reached front) after.port × (after.left ≡ mid.left)
       × AnswerIsCutShort (front_line front) mid.taken after.taken mid.unwritten after.unwritten
 
+  -- the sink answered its front, whose line is too long, and nothing was written or read
+  abbrev pub IsUnsaid : ℕ → Moment K → Moment K → Type 0
+  IsUnsaid limit mid after =
+      (front : Reaches) × sinks mid.port fronts (reached front) after.port × IsOverlong limit front
+      × (after.taken ≡ mid.taken) × (after.left ≡ mid.left)
+
   -- what is left of the sink, and what was written, where a round isn't whole
   abbrev pub Leaves : ℕ → Moment K → List ℕ → LineFault → Moment K → Type 0
   Leaves limit mid held Closed after = IsDeclined limit mid held sink.Closed after
@@ -261,7 +273,7 @@ module _ {K : Type 0} (sinks : K → Offer → Uptake → K → Type 0) where
       IsUnasked mid after ⊎ (IsCutOff limit mid held NoMemory after ⊎ IsDeclined limit mid held sink.NoMemory after)
   Leaves limit mid held WriteFault after = IsUnwritten mid after
   Leaves limit mid held ReadFault after = IsCutOff limit mid held ReadFault after
-  Leaves limit mid held LongLine after = IsCutOff limit mid held LongLine after
+  Leaves limit mid held LongLine after = IsUnsaid limit mid after ⊎ IsCutOff limit mid held LongLine after
   Leaves limit mid held BadAnswer after = IsCutOff limit mid held BadAnswer after
   Leaves limit mid held BadVersion after = ⊥
 

@@ -1,6 +1,6 @@
 //! Runs a pull.
 
-ghost use Rattle.std.specs.Prelude.{Bool, ◌≡◌, ◌++◌, ◌<◌, ◌≤◌, ℕ, List, IfErr, IfNone, IfOk, IfSome, MatchOption};
+ghost use Rattle.std.specs.Prelude.{Bool, ◌≡◌, ◌++◌, ◌+◌, ◌<◌, ◌≤◌, ℕ, List, IfErr, IfNone, IfOk, IfSome, MatchOption};
 ghost use Rattle.std.specs.Prelude.{MatchResult, Ok, OnOk, length, ◌∷◌, [], ◌≢◌, Err};
 ghost use Rattle.op_text.specs.Spelling.{SpellsOperation};
 ghost use Rattle.review_ops.specs.Operation.{Operation};
@@ -50,7 +50,8 @@ pub struct Handed {
 
 /// Takes from a session what the sink lacks, in rounds: the sink's front is written, an answer is read, and once it is
 /// whole its operations are handed over, in their order. After an answer that says that nothing is left, or after 4,096
-/// rounds, `quit` is written and nothing more is read. Refusals: 1 `LongLine`, a line has more than 524,288 bytes; 2
+/// rounds, `quit` is written and nothing more is read. Refusals: 1 `LongLine`, a line of the answer or that of the sink's
+/// front has more than 524,288 bytes; 2
 /// `BadVersion`, the first line names another version; 3 `ReadFault`, the source failed; 4 `WriteFault`, the drain
 /// failed; 5 `NoMemory`, memory was refused, here or in the sink; 6 `BadAnswer`, a line can't be part of an answer, an
 /// operation is invalid, a 257th one came, or the input ended where a line is awaited; 7 `Closed`, the sink has ended;
@@ -92,7 +93,7 @@ pub fn pull_rounds<S: Source, D: Drain, K: Sink>(
     greet(&mut reader, source, drain)?;
     let mut taken: u64 = 0;
     for round in 0..most {
-        let handed = pull_round(alloc, &mut reader, source, drain, sink)?;
+        let handed = pull_round(alloc, limit, &mut reader, source, drain, sink)?;
         taken += handed.count as u64;
         if !handed.more {
             send(drain, "quit\n")?;
@@ -136,14 +137,16 @@ pub fn greet<S: Source, D: Drain>(
     }
 }
 
-/// Pulls one answer, and hands over its operations.
+/// Pulls one answer, by lines of at most so many bytes, and hands over its operations.
 fn pull_round<S: Source, D: Drain, K: Sink>(
     alloc: Global,
+    limit: usize,
     reader: &mut LineReader,
     source: &mut S,
     drain: &mut D,
     sink: &mut K,
 ) -> Result<Handed, LineFault>
+    requires { reader.old.limit ≡ limit }
     ensures pulls { PullsRound K.sinks reader.old.limit
         (record { port = sink.old; left = S.left source.old; taken = D.taken drain.old; unread = S.failed source.old; unwritten = D.failed drain.old })
         reader.old.held result
@@ -155,7 +158,7 @@ fn pull_round<S: Source, D: Drain, K: Sink>(
         Ok(front) => front,
         Err(fault) => return Err(declined(fault)),
     };
-    send_front(alloc, drain, &front)?;
+    send_front(alloc, limit, drain, &front)?;
     let Missing { ops, more } = read_round(alloc, reader, source)?;
     let count = ops.as_slice().len();
     match sink.take_all(ops) {
@@ -176,15 +179,25 @@ fn declined(fault: SinkFault) -> LineFault
     }
 }
 
-/// Asks a session for the operations that a front lacks. Refusals: 4 `WriteFault`, the drain failed; 5 `NoMemory`,
+/// Asks a session for the operations that a front lacks, by a line of at most so many bytes before its LF. Refusals: 1
+/// `LongLine`, the front needs a longer line, and nothing was sent; 4 `WriteFault`, the drain failed; 5 `NoMemory`,
 /// nothing was sent.
-pub fn send_front<D: Drain>(alloc: Global, drain: &mut D, front: &Front) -> Result<(), LineFault>
-    ensures { SendsFront front.now (D.taken drain.old) (D.taken drain.new) (D.failed drain.old)
+pub fn send_front<D: Drain>(
+    alloc: Global,
+    limit: usize,
+    drain: &mut D,
+    front: &Front,
+) -> Result<(), LineFault>
+    ensures sends { SendsFront limit front.now (D.taken drain.old) (D.taken drain.new) (D.failed drain.old)
         (D.failed drain.new) result }
+    ensures within { OnOk result (length (front_line front.now) ≤ limit + 1) }
 {
     let Ok(line) = line_of(alloc, front) else {
         return Err(LineFault::NoMemory);
     };
+    if line.as_str().len() > limit.saturating_add(1) {
+        return Err(LineFault::LongLine);
+    }
     send(drain, line.as_str())
 }
 

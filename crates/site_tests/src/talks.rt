@@ -3,7 +3,9 @@
 use super::asserts::assert_found;
 use byte_ends::{Broken, Drain, Ends, Source};
 use gate_rules::Gate;
-use gossip_line::{LineFault, Pulled, answer_lines, pull_run, pulls_pass_on_all, session_run};
+use gossip_line::{
+    LineFault, Pulled, answer_lines, pull_rounds, pull_run, pulls_pass_on_all, session_run,
+};
 use op_text::read_op;
 use ready_core::Verdicts;
 use replica_core::{Front, Missing, Replica};
@@ -338,6 +340,41 @@ fn pull_by<K: Sink>(alloc: Global, peer: &[u8], sink: &mut K) -> Pull {
     let mut drain = Ends::new(Vec::new(alloc));
     let ended = pull_run(alloc, &mut Ends::new(peer), &mut drain, sink);
     (ended, drain.into_inner())
+}
+
+/// How a pull by lines of at most so many bytes ends, where the peer has nothing more, and what it asks.
+fn pulled_within(alloc: Global, limit: usize) -> Option<Pull> {
+    let mut port = port_of(alloc, &[MERGE_5])?;
+    let mut drain = Ends::new(Vec::new(alloc));
+    let mut peer = Ends::new(b"hello 2\ndone\n".as_slice());
+    let ended = pull_rounds(alloc, limit, 1, &mut peer, &mut drain, &mut port);
+    Some((ended, drain.into_inner()))
+}
+
+/// Whether a pull by such lines ends so, and asks this.
+fn is_pulled_within(
+    alloc: Global,
+    limit: usize,
+    ended: Result<Pulled, LineFault>,
+    asked: &[u8],
+) -> Option<bool> {
+    let found = pulled_within(alloc, limit)?;
+    Some(found.0 == ended && found.1.as_slice() == asked)
+}
+
+// The line of the front has 15 bytes.
+#[test]
+fn a_front_that_is_too_long_for_a_line_is_not_sent(rt: HostRuntime) {
+    let none = Pulled {
+        rounds: 1,
+        taken: 0,
+        more: false,
+    };
+    let asked = b"hello 2\nfront [[1,1,1]]\nquit\n".as_slice();
+    let is_sent = is_pulled_within(rt.alloc(), 15, Ok(none), asked);
+    assert_found(&rt, is_sent, Some(true));
+    let is_unsent = is_pulled_within(rt.alloc(), 14, Err(LineFault::LongLine), b"hello 2\n");
+    assert_found(&rt, is_unsent, Some(true));
 }
 
 /// A site that has ended.

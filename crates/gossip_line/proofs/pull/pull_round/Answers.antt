@@ -1,5 +1,6 @@
-use Rattle.std.proofs.Common.{refl, ap, length}
+use Rattle.std.proofs.Common.{Err, refl, ap, length, subst, sym}
 use Rattle.std.proofs.lemmas.Result.{err_from_is_err_and}
+use Rattle.gossip_line.specs.Pull.{SendsFront}
 use Rattle.gossip_line.proofs.Moments.{moment_of}
 use Rattle.gossip_line.proofs.Pulling.{front_failed, handed_over, not_read, not_taken}
 use Rattle.gossip_line.proofs.pull.pull_round.Goals as goal
@@ -10,7 +11,9 @@ returns-in_err-send_front-clause-pulls g c =
     let mid = moment_of g.S.Source g.D.Drain c.args.sink.now c.args.source.now c.args.drain.now in
     let after = moment_of g.S.Source g.D.Drain c.front.new.self c.args.source.now c.send_front.new.drain in
     let failed = front_failed g.K.Sink.sinks c.args.reader.now.limit mid after c.args.reader.now.held c.in-Ok.front
-    c.in_err-send_front.field-0.0 c.in_err-send_front.ensures refl refl c.in-Ok.ensures in
+    c.in_err-send_front.field-0.0
+    (subst (λ l. SendsFront l c.in-Ok.front mid.taken after.taken mid.unwritten after.unwritten (Err c.in_err-send_front.field-0.0)) (sym c.requires) c.in_err-send_front.ensures.sends)
+    refl refl c.in-Ok.ensures in
     rw (p.1, p.2) (failed.leaves, failed.counts)
 
 pub returns-in_err-ops-clause-pulls : goal.returns-in_err-ops-clause-pulls
@@ -20,7 +23,7 @@ returns-in_err-ops-clause-pulls g c =
     let after = moment_of g.S.Source g.D.Drain c.front.new.self c.read_round.new.source c.send_front.new.drain in
     let reads = c.in_err-ops.ensures.reads in
     let failed = not_read g.K.Sink.sinks mid after c.in-Ok.front c.args.reader.now reads.0 c.in_err-ops.field-0.0
-    c.in-Ok.ensures c.in_ok-send_front.ensures reads.1 reads.2 c.in_err-ops.ensures.counted in
+    c.in-Ok.ensures c.in_ok-send_front.ensures.sends reads.1 reads.2 c.in_err-ops.ensures.counted in
     rw (p.1, p.2) (failed.leaves, failed.counts)
 
 pub returns-in-Ok-take_all-clause-pulls : goal.returns-in-Ok-take_all-clause-pulls
@@ -29,7 +32,7 @@ returns-in-Ok-take_all-clause-pulls g c =
     let after = moment_of g.S.Source g.D.Drain c.take_all.new.self c.read_round.new.source c.send_front.new.drain in
     let reads = c.in_ok-ops.ensures.reads in
     handed_over g.K.Sink.sinks mid after c.front.new.self c.in-Ok.front c.args.reader.now c.read_round.new.reader
-    reads.0 c.in_ok-ops.field-0 c.in-Ok.ensures c.in_ok-send_front.ensures reads.1 reads.2
+    reads.0 c.in_ok-ops.field-0 c.in-Ok.ensures c.in_ok-send_front.ensures.sends reads.1 reads.2
     c.in_ok-ops.ensures.counted _ (ap length c.as_slice-count.ensures.value) c.in-Ok-take_all.ensures
 
 pub returns-clause-pulls : goal.returns-clause-pulls
@@ -38,7 +41,7 @@ returns-clause-pulls g c =
     let after = moment_of g.S.Source g.D.Drain c.take_all.new.self c.read_round.new.source c.send_front.new.drain in
     let reads = c.in_ok-ops.ensures.reads in
     let failed = not_taken g.K.Sink.sinks mid after c.front.new.self c.in-Ok.front c.args.reader.now
-    c.read_round.new.reader reads.0 c.in_ok-ops.field-0 c.in-Ok.ensures c.in_ok-send_front.ensures reads.1 reads.2
+    c.read_round.new.reader reads.0 c.in_ok-ops.field-0 c.in-Ok.ensures c.in_ok-send_front.ensures.sends reads.1 reads.2
     c.in_ok-ops.ensures.counted c.in-Err-take_all.fault c.declined-in-Err-take_all.result
     c.declined-in-Err-take_all.ensures c.in-Err-take_all.ensures in
     (failed.leaves, failed.counts)
