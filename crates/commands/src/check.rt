@@ -31,7 +31,7 @@ pub fn check<'n, C: Console>(
 {
     let rules = read_gate(alloc, command.gate, console)?;
     let record = read_any_record(alloc, command.snapshot, console)?;
-    let state = state_in(record)?;
+    let state = state_in(console, record)?;
     let ended = print_check(alloc, &rules, state.as_ref(), command, console);
     // The program ends now, and the record's memory goes with it.
     let _kept = ManuallyDrop::new(state);
@@ -57,12 +57,15 @@ fn read_any_record<'n, C: Console>(
 }
 
 /// The state of a record, where there is one.
-fn state_in(read: Option<Gathering>) -> Result<Option<State>, Refusal<'static>>
+fn state_in<C: Console>(
+    console: &C,
+    read: Option<Gathering>,
+) -> Result<Option<State>, Refusal<'static>>
     ensures state { IfOk result (λ state. state ≡ option_map state_of read) }
     ensures refused { IfErr result (λ refusal. refusal ≡ Refusal.Memory) }
 {
     match read {
-        Some(gathering) => Ok(Some(state_from(gathering)?)),
+        Some(gathering) => Ok(Some(state_from(console, gathering)?)),
         None => Ok(None),
     }
 }

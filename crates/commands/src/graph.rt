@@ -28,7 +28,7 @@ pub fn graph<'n, C: Console>(
 {
     let rules = read_gate(alloc, command.gate, console)?;
     let gathering = read_record(Gathering::new(alloc), command.snapshot, console)?;
-    let state = state_from(gathering)?;
+    let state = state_from(console, gathering)?;
     let picture = picture_of(alloc, &rules, &state, command.around);
     // The program ends now, and the record's memory goes with it.
     let _kept = ManuallyDrop::new(state);

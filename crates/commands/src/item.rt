@@ -45,7 +45,7 @@ pub fn ready_item<'n, C: Console>(
 {
     let rules = read_gate(alloc, command.gate, console)?;
     let gathering = read_record(Gathering::new(alloc), command.snapshot, console)?;
-    let state = state_from(gathering)?;
+    let state = state_from(console, gathering)?;
     let printed = print_item(alloc, &rules, &state, command, console);
     // The program ends now, and the record's memory goes with it.
     let _kept = ManuallyDrop::new(state);

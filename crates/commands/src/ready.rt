@@ -25,7 +25,7 @@ pub fn ready<'n, C: Console>(
 {
     let rules = read_gate(alloc, command.gate, console)?;
     let gathering = read_record(Gathering::new(alloc), command.snapshot, console)?;
-    let state = state_from(gathering)?;
+    let state = state_from(console, gathering)?;
     let Ok(verdicts) = evaluate(alloc, &state, &rules) else {
         return Err(Refusal::Memory);
     };

@@ -34,7 +34,7 @@ pub fn why<'n, C: Console>(
 {
     let file = read_gate_file(alloc, command.gate, console)?;
     let gathering = read_record(Gathering::new(alloc), command.snapshot, console)?;
-    let state = state_from(gathering)?;
+    let state = state_from(console, gathering)?;
     let reason = reason_of(alloc, &file, &state, command);
     // The program ends now, and the record's memory goes with it.
     let _kept = ManuallyDrop::new(state);

@@ -6,12 +6,15 @@ ghost use Rattle.byte_ends.specs.ReadAll.{CountsRead};
 ghost use Rattle.snapshot_text.specs.Snapshot.{Brings, CountsSnapFault, IsRefusedBy};
 ghost use Rattle.console.specs.Console.{Contents, Records, file_of, record_at};
 ghost use Rattle.console.specs.Pulls.{BringsRecord, IsPullFault};
+ghost use Rattle.state_core.specs.State.{state_of};
 
 use super::pulls::PullFault;
 use byte_ends::BytesFault;
-use replica_core::Gathering;
+use lattice_core::NoMemory;
+use replica_core::{Gathering, Replica};
 use site_address::Address;
 use snapshot_text::SnapFault;
+use state_core::State;
 
 /// Files by their names, and running sites by their addresses.
 pub trait Named {
@@ -58,6 +61,20 @@ pub trait Named {
         ensures kept { files self.new ≡ files self.old }
         ensures sites { sites self.new ≡ sites self.old }
         ensures counted { failed self.new ≡ failed self.old };
+
+    /// The state of what was gathered, as `Gathering::into_state` gives it.
+    fn state_from(&self, gathering: Gathering) -> Result<State, NoMemory>
+        ensures { IfOk result (λ state. state ≡ state_of gathering) }
+    {
+        gathering.into_state()
+    }
+
+    /// The replica of what was gathered, as `Gathering::joined` gives it.
+    fn replica_from(&self, gathering: Gathering) -> Result<Replica, NoMemory>
+        ensures { IfOk result (λ replica. replica ≡ gathering) }
+    {
+        gathering.joined()
+    }
 
     /// How many calls answered `ReadFault`. The count stays at `u64::MAX`.
     fn failures(&self) -> u64

@@ -12,16 +12,19 @@ ghost use Rattle.console.specs.Console.{ConsoleState, IsRead, IsUnread, is_input
 ghost use Rattle.console.specs.Inputs.{IsHad, IsRefused, input, snapshot_file};
 ghost use Rattle.console.specs.Printing.{Prints, PrintsSnapshot};
 ghost use Rattle.console.specs.Pulls.{BringsRecord, IsPullFault};
+ghost use Rattle.state_core.specs.State.{state_of};
 
 use super::files::Named;
 use super::pulls::PullFault;
 use super::refusals::Refusal;
 use byte_ends::{BytesFault, Drain, Source, read_all, write_all};
+use lattice_core::NoMemory;
 use ready_core::Verdicts;
-use replica_core::Gathering;
+use replica_core::{Gathering, Replica};
 use report_text::{WriteReportFault, write_report};
 use site_address::Address;
 use snapshot_text::{SnapFault, WriteSnapFault, gather_onto, write_gathered};
+use state_core::State;
 use std::alloc::Global;
 
 /// What a command reads from and prints to.
@@ -53,6 +56,14 @@ pub trait Console {
         ensures pulled { IfOk result (λ both. BringsRecord (record_at (state self.old).sites address.entry) gathering both) }
         ensures unpulled { IfErr result IsPullFault }
         ensures kept { state self.new ≡ state self.old };
+
+    /// The state of what was gathered, as `Gathering::into_state` gives it.
+    fn state_from(&self, gathering: Gathering) -> Result<State, NoMemory>
+        ensures { IfOk result (λ state. state ≡ state_of gathering) };
+
+    /// The replica of what was gathered, as `Gathering::joined` gives it.
+    fn replica_from(&self, gathering: Gathering) -> Result<Replica, NoMemory>
+        ensures { IfOk result (λ replica. replica ≡ gathering) };
 
     /// Prints a text. Refusal: `Output`, the output failed.
     fn print(&mut self, text: &[u8]) -> Result<(), Refusal<'static>>
@@ -124,6 +135,14 @@ impl<'i, 'o, 'f, I: Source, O: Drain, N: Named> Console for Streams<'i, 'o, 'f, 
 
     fn pull(&mut self, gathering: Gathering, address: Address<'_>) -> Result<Gathering, PullFault> {
         self.files.pull(gathering, address)
+    }
+
+    fn state_from(&self, gathering: Gathering) -> Result<State, NoMemory> {
+        self.files.state_from(gathering)
+    }
+
+    fn replica_from(&self, gathering: Gathering) -> Result<Replica, NoMemory> {
+        self.files.replica_from(gathering)
     }
 
     fn print(&mut self, text: &[u8]) -> Result<(), Refusal<'static>> {

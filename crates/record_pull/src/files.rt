@@ -7,10 +7,12 @@ use super::connection::pull_from;
 use super::joining::joined;
 use byte_ends::{BytesFault, Ends, read_all};
 use console::{Named, PullFault};
+use lattice_core::NoMemory;
 use line_batches::{Batches, OneByOne};
-use replica_core::Gathering;
+use replica_core::{Gathering, Replica};
 use site_address::Address;
 use snapshot_text::{SnapFault, gather_by};
+use state_core::State;
 use std::alloc::Global;
 use std::fs;
 use std::net::{Net, TcpStream};
@@ -27,7 +29,7 @@ pub struct SystemFiles<R: Drop, B: Drop = OneByOne> {
 
 impl<R: Drop> SystemFiles<R> {
     /// The files that `rt` opens and the sites that it connects to, with no failure counted. The lines of snapshots are
-    /// read one by one.
+    /// read one by one, and effects joined one after the other.
     pub fn new(rt: R) -> SystemFiles<R>
         ensures { result.failures ≡ 0 }
     {
@@ -36,7 +38,7 @@ impl<R: Drop> SystemFiles<R> {
 }
 
 impl<R: Drop, B: Batches + Drop> SystemFiles<R, B> {
-    /// The same, but the lines of snapshots are read in batches.
+    /// The same, but the lines of snapshots are read in batches, which join the effects, too.
     pub fn read_by(rt: R, batches: B) -> SystemFiles<R, B>
         ensures { result.failures ≡ 0 }
     {
@@ -92,6 +94,14 @@ where
     fn pull(&mut self, gathering: Gathering, address: Address<'_>) -> Result<Gathering, PullFault> {
         let pulled = pull_from(&self.rt, self.rt.alloc(), address)?;
         joined(gathering, pulled)
+    }
+
+    fn state_from(&self, gathering: Gathering) -> Result<State, NoMemory> {
+        gathering.into_state_by(&self.batches)
+    }
+
+    fn replica_from(&self, gathering: Gathering) -> Result<Replica, NoMemory> {
+        gathering.joined_by(&self.batches)
     }
 
     fn failures(&self) -> u64 {
