@@ -168,3 +168,51 @@ fn lists_have_what_is_asked_for(rt: HostRuntime) {
     let are_chosen = are_chosen(rt.alloc());
     assert!(rt; are_chosen);
 }
+
+/// Two hundred letters that are searched for, of which a long subject has as many at its end; and those with another
+/// last one.
+const LONG_WORDS: &str = concat!(
+    "aaaaaaaaaaaaaaaaaaaaaaaaaaaaaaaaaaaaaaaaaaaaaaaaaaaaaaaaaaaaaaaaaaaaaaaaaaaaaaaaaaaaaaaaaaaaaaaaaaaa",
+    "AAAAAAAAAAAAAAAAAAAAAAAAAAAAAAAAAAAAAAAAAAAAAAAAAAAAAAAAAAAAAAAAAAAAAAAAAAAAAAAAAAAAAAAAAAAAAAAAAAA",
+    "b",
+);
+
+const OTHER_LONG_WORDS: &str = concat!(
+    "aaaaaaaaaaaaaaaaaaaaaaaaaaaaaaaaaaaaaaaaaaaaaaaaaaaaaaaaaaaaaaaaaaaaaaaaaaaaaaaaaaaaaaaaaaaaaaaaaaaa",
+    "aaaaaaaaaaaaaaaaaaaaaaaaaaaaaaaaaaaaaaaaaaaaaaaaaaaaaaaaaaaaaaaaaaaaaaaaaaaaaaaaaaaaaaaaaaaaaaaaaaa",
+    "c",
+);
+
+/// Words, with the changes that have them in their subjects or numbers.
+const SEARCHES: [(&str, &str); 14] = [
+    (LONG_WORDS, "1 "),
+    (OTHER_LONG_WORDS, ""),
+    ("", "1 2 3 4 5 6 17 "),
+    ("7", "17 "),
+    ("aab", "1 2 "),
+    ("aAAB", "1 2 "),
+    ("ababac", "3 "),
+    ("the door", "4 "),
+    ("doors", ""),
+    ("PAINT", "17 "),
+    ("der tür", "5 "),
+    ("ÄRGER", "5 "),
+    ("ärger", ""),
+    ("hidden", ""),
+];
+
+/// Whether each of those words has its changes.
+fn are_found(alloc: Global) -> bool {
+    let mut are_so = true;
+    for (words, changes) in SEARCHES {
+        let question = Question::Chooses(Shown::All, None, Some(words), changes);
+        are_so = is_so(alloc, Record::Subjects, question) && are_so;
+    }
+    are_so
+}
+
+#[test]
+fn words_are_found_anywhere_in_either_case(rt: HostRuntime) {
+    let are_found = are_found(rt.alloc());
+    assert!(rt; are_found);
+}

@@ -49,15 +49,42 @@ static RECORD: [(u32, Deed); 10] = [
 ];
 
 /// What was done in that record, as a list.
-fn deeds() -> &'static [(u32, Deed)] {
+fn given() -> &'static [(u32, Deed)] {
     &RECORD
+}
+
+/// A subject of four hundred letters and one more.
+const LONG: &str = concat!(
+    "aaaaaaaaaaaaaaaaaaaaaaaaaaaaaaaaaaaaaaaaaaaaaaaaaaaaaaaaaaaaaaaaaaaaaaaaaaaaaaaaaaaaaaaaaaaaaaaaaaaa",
+    "aaaaaaaaaaaaaaaaaaaaaaaaaaaaaaaaaaaaaaaaaaaaaaaaaaaaaaaaaaaaaaaaaaaaaaaaaaaaaaaaaaaaaaaaaaaaaaaaaaaa",
+    "aaaaaaaaaaaaaaaaaaaaaaaaaaaaaaaaaaaaaaaaaaaaaaaaaaaaaaaaaaaaaaaaaaaaaaaaaaaaaaaaaaaaaaaaaaaaaaaaaaaa",
+    "aaaaaaaaaaaaaaaaaaaaaaaaaaaaaaaaaaaaaaaaaaaaaaaaaaaaaaaaaaaaaaaaaaaaaaaaaaaaaaaaaaaaaaaaaaaaaaaaaaaa",
+    "B",
+);
+
+/// Changes with subjects of several kinds.
+static SUBJECTS: [(u32, Deed); 7] = [
+    (1, Deed::PatchSet(1, LONG, None)),
+    (2, Deed::PatchSet(1, "aaab", None)),
+    (3, Deed::PatchSet(1, "abABabac", None)),
+    (4, Deed::PatchSet(1, "Open the DOOR", None)),
+    (5, Deed::PatchSet(1, "Ärger mit der Tür", None)),
+    (6, Deed::PatchSet(1, "Short\n\nand hidden words\n", None)),
+    (17, Deed::PatchSet(1, "Paint it", None)),
+];
+
+/// Those changes, as a list.
+fn subjects() -> &'static [(u32, Deed)] {
+    &SUBJECTS
 }
 
 /// A record.
 #[derive(Clone, Copy)]
 pub enum Record {
-    /// That one, under the gate that wants two approvals.
+    /// The first one, under the gate that wants two approvals.
     Given,
+    /// The changes with subjects of several kinds, under the gate that wants nothing.
+    Subjects,
     /// One in which each change from 1 on has a parent with the next number, up to the last one, which is given with
     /// its parent, under the gate that wants nothing.
     Chain(u32, u32),
@@ -79,7 +106,8 @@ fn replica(alloc: Global, record: Record) -> Option<Replica> {
 /// Takes a record in.
 fn take_record(alloc: Global, replica: &mut Replica, record: Record) -> Option<()> {
     match record {
-        Record::Given => take_given(alloc, replica),
+        Record::Given => take_deeds(alloc, replica, given()),
+        Record::Subjects => take_deeds(alloc, replica, subjects()),
         Record::Chain(last, parent) => take_chain(alloc, replica, last, parent),
         Record::MergedEnd(last, parent) => {
             take_ended(alloc, replica, last, parent, Deed::Merged)
@@ -91,10 +119,10 @@ fn take_record(alloc: Global, replica: &mut Replica, record: Record) -> Option<(
     }
 }
 
-/// Takes the given record in.
-fn take_given(alloc: Global, replica: &mut Replica) -> Option<()> {
+/// Takes in what was done to changes.
+fn take_deeds(alloc: Global, replica: &mut Replica, deeds: &[(u32, Deed)]) -> Option<()> {
     let mut time = 0u64;
-    for (change, deed) in deeds() {
+    for (change, deed) in deeds {
         time = time.saturating_add(1);
         take(alloc, replica, time, *change, *deed)?;
     }
@@ -137,7 +165,8 @@ fn take(alloc: Global, replica: &mut Replica, time: u64, change: u32, deed: Deed
 fn gate(alloc: Global, record: Record) -> Option<Gate> {
     let text = match record {
         Record::Given => GATE,
-        Record::Chain(_, _) | Record::MergedEnd(_, _) | Record::VotedEnd(_, _) => OPEN_GATE,
+        Record::Subjects | Record::Chain(_, _) | Record::MergedEnd(_, _) | Record::VotedEnd(_, _) =>
+            OPEN_GATE,
     };
     Gate::read(alloc, text.as_bytes()).ok()
 }

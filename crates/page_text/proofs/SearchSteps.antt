@@ -1,46 +1,52 @@
--- Words in a text, byte by byte.
-use Rattle.std.proofs.Common.{◌≡◌, ◌∙◌, ◌+◌, ◌<◌, ℕ, List, ◌∷◌, Bool, false, length, map, take, drop}
-use Rattle.std.proofs.Common.{get_or, ap, sym, suc, arith, length-drop, subst}
-use Rattle.std.specs.Prelude.{◌||◌, ◌↔◌, ◌-◌, IsTrue}
-use Rattle.std.specs.Bool.{Decides}
-use Rattle.std.specs.Char.{to_ascii_lowercase}
-use Rattle.std.proofs.Math.Seq.{drop-cons}
-use Rattle.std.proofs.Math.Seq.{take-length}
-use Rattle.std.proofs.lemmas.List.{length-map, take-map}
-use Rattle.std.proofs.lemmas.Bool.Decides.{same_from_decides}
+-- Words in a text, where a needle is in a haystack.
+use Rattle.std.proofs.Common.{◌≡◌, ◌∙◌, ◌≤◌, ℕ, zero, suc, List, [], ◌∷◌, true, false, length, take, drop}
+use Rattle.std.proofs.Common.{ap, sym, arith, length-drop, ⊎_elim}
+use Rattle.std.specs.Prelude.{◌||◌, Option, None, Some, is_some}
+use Rattle.std.proofs.Math.Bool.{or-true}
+use Rattle.std.proofs.lemmas.Bool.{cases_Bool}
+use Rattle.std.proofs.lemmas.List.{length-take}
 use Rattle.std.proofs.lemmas.Slice.Eq.{bytes_eq-Decides}
+use Rattle.memchr.specs.Find.{FindsNeedle, OccursAt}
+use Rattle.memchr.proofs.lemmas.MatchLemmas.{OccursAt-from_part, OccursAt-part}
 use Rattle.page_text.specs.Search.{begins, contains}
 
-abbrev low : List ℕ → List ℕ
-low = map to_ascii_lowercase
+-- what is left of the text from a place on begins with the words where these occur there
+begun : (words text : List ℕ) (k : ℕ) → OccursAt text words k → begins words (drop k text) ≡ true
+begun words text k occurs =
+    (bytes_eq-Decides (take (length words) (drop k text)) words).1 (OccursAt-part text words k occurs)
 
-past_byte : (words : List ℕ) (b : ℕ) (rest whole : List ℕ) → begins words (b ∷ rest) ≡ false
-    → contains words (b ∷ rest) ≡ contains words whole → contains words rest ≡ contains words whole
-past_byte words b rest whole unlike so_far = sym (ap (λ t. t || contains words rest) unlike) ∙ so_far
+occurs : (words text : List ℕ) (k : ℕ) → k ≤ length text → begins words (drop k text) ≡ true → OccursAt text words k
+occurs words text k inside is =
+    let part : take (length words) (drop k text) ≡ words
+    = (bytes_eq-Decides (take (length words) (drop k text)) words).0 is in
+    OccursAt-from_part text words k
+    (omega (arith, ap length part, length-take (length words) (drop k text), length-drop k text)) part
 
-rest_is : (text : List ℕ) (i : ℕ) → take (length text - i) (drop i text) ≡ drop i text
-rest_is text i = subst (λ n. take n (drop i text) ≡ drop i text) (length-drop i text) (take-length (drop i text))
+not_begun : (words text : List ℕ) (k : ℕ) → k ≤ length text → ¬ OccursAt text words k
+    → begins words (drop k text) ≡ false
+not_begun words text k inside absent =
+    ⊎_elim (λ is. absurd (absent (occurs words text k inside is))) (λ is_not. is_not)
+    (cases_Bool (begins words (drop k text)))
 
-pub further : (words text : List ℕ) (i : ℕ) → i < length text
-    → false ≡ begins (low words) (low (take (length text - i) (drop i text)))
-    → contains (low words) (low (drop i text)) ≡ contains (low words) (low text)
-    → contains (low words) (low (drop (i + 1) text)) ≡ contains (low words) (low text)
-further words text i inside unlike so_far =
-    let next : i + 1 ≡ suc i = omega arith in
-    let here : low (drop i text) ≡ to_ascii_lowercase (get_or text i 0) ∷ low (drop (suc i) text)
-    = ap low (drop-cons text i 0 inside) in
-    ap (λ n. contains (low words) (low (drop n text))) next
-    ∙ past_byte (low words) (to_ascii_lowercase (get_or text i 0)) (low (drop (suc i) text)) (low text)
-    (sym (ap (begins (low words)) here) ∙ sym (ap (begins (low words)) (ap low (rest_is text i))) ∙ sym unlike)
-    (sym (ap (contains (low words)) here) ∙ so_far)
+found_at : (words text : List ℕ) (k : ℕ) → k ≤ length text → begins words (drop k text) ≡ true
+    → contains words text ≡ true
+found_at words [] zero inside is = is
+found_at words [] (suc k) inside is = absurd (omega arith)
+found_at words (byte ∷ bytes) zero inside is = ap (λ t. t || contains words bytes) is
+found_at words (byte ∷ bytes) (suc k) inside is =
+    ap (λ t. begins words (byte ∷ bytes) || t) (found_at words bytes k (omega arith) is)
+    ∙ or-true (begins words (byte ∷ bytes))
 
-pub begun : (result : Bool) (words text : List ℕ) → (IsTrue result ↔ (low (take (length words) text) ≡ low words))
-    → result ≡ begins (low words) (low text)
-begun result words text tells =
-    let same : take (length (low words)) (low text) ≡ low (take (length words) text)
-    = ap (λ n. take n (low text)) (length-map words to_ascii_lowercase)
-    ∙ take-map to_ascii_lowercase (length words) text in
-    let tested : Decides (begins (low words) (low text)) (low (take (length words) text) ≡ low words)
-    = subst (λ l. Decides (begins (low words) (low text)) (l ≡ low words)) same
-    (bytes_eq-Decides (take (length (low words)) (low text)) (low words)) in
-    same_from_decides result (begins (low words) (low text)) tells tested
+found_nowhere : (words text : List ℕ) → ((k : ℕ) → k ≤ length text → begins words (drop k text) ≡ false)
+    → contains words text ≡ false
+found_nowhere words [] absent = absent 0 (omega arith)
+found_nowhere words (byte ∷ bytes) absent =
+    ap (λ t. t || contains words bytes) (absent 0 (omega arith))
+    ∙ found_nowhere words bytes (λ k inside. absent (suc k) (omega arith))
+
+pub found : (words text : List ℕ) (place : Option ℕ) → FindsNeedle text words 0 place
+    → is_some place ≡ contains words text
+found words text None absent =
+    sym (found_nowhere words text (λ k inside. not_begun words text k inside (absent k (omega arith) (omega arith))))
+found words text (Some k) first =
+    sym (found_at words text k (omega (arith, first.1.fits)) (begun words text k first.1))

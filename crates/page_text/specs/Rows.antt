@@ -1,8 +1,9 @@
 -- The rows of a list of items, which of them are asked for, and which are on a page. What is listed is the project's
 -- own; that an item is over is as in `report_changes`.
 use Rattle.std.specs.Prelude.{ℕ, zero, suc, Bool, true, false, ◌&&◌, ◌||◌, ◌-◌, ◌*◌, not, List, [], ◌∷◌, ◌++◌, Option, None, Some}
-use Rattle.std.specs.Prelude.{decimal, drop, filter, map, option_map, string_bytes, take}
+use Rattle.std.specs.Prelude.{String, decimal, drop, filter, map, option_map, string_bytes, take}
 use Rattle.std.specs.Char.{to_ascii_lowercase}
+use Rattle.std.specs.declared.alloc.Global.{Global}
 use Rattle.gate_rules.specs.declared.condition.Side.{Side}
 use Rattle.gate_rules.specs.declared.condition.Side.TheVariants as side
 use Rattle.state_core.specs.State.{State}
@@ -68,11 +69,16 @@ abbrev pub has_reason : Option Reason → Row → Bool
 has_reason None row = true
 has_reason (Some reason) row = waits_for reason row
 
--- the subject or the number of the change contains the words, without regard to the case of ASCII letters
+-- the words that are searched for in lower case, if some are
+abbrev pub searched : Option (String Global) → Option (List ℕ)
+searched words = option_map (map to_ascii_lowercase) (option_map string_bytes words)
+
+-- the subject or the number of the change contains the words in lower case, without regard to the case of its own ASCII
+-- letters
 abbrev pub is_found : State → List ℕ → Item → Bool
 is_found state words item =
-    contains (map to_ascii_lowercase words) (map to_ascii_lowercase (subject_of state item))
-    || contains (map to_ascii_lowercase words) (map to_ascii_lowercase (decimal item.change))
+    contains words (map to_ascii_lowercase (subject_of state item))
+    || contains words (map to_ascii_lowercase (decimal item.change))
 
 -- where no words are searched for, each item passes
 abbrev pub has_words : State → Option (List ℕ) → Item → Bool
@@ -82,7 +88,7 @@ has_words state (Some words) item = is_found state words item
 abbrev pub is_asked : State → Choice → Row → Bool
 is_asked state choice row =
     is_shown choice.shown row && has_reason choice.reason row
-    && has_words state (option_map string_bytes choice.words) (row_item row)
+    && has_words state (searched choice.words) (row_item row)
 
 -- the rows that are asked for
 abbrev pub chosen_rows : State → Choice → Judged → List Row

@@ -34,7 +34,7 @@ use why_text::item_asked;
 /// with the status `NotFound`, and else what is asked for, with the status `Found`. The verdicts are those of the
 /// replica's state under the gate. Refusal: memory was refused. It costs O(n) for n items, and for a page of the list
 /// O(k log n) more for k items in the chains of its rows, for metrics O(n k) under a gate with k approvals, and where
-/// words are searched for O(n log n) and the product of their length with that of all subjects.
+/// words are searched for O(n log n + m) for words and subjects of m bytes in all.
 pub fn page_of(
     alloc: Global,
     route: &Route,

@@ -1,12 +1,12 @@
 //! The rows of a list of items: which items are asked for, and which of them are on a page.
 
-ghost use Rattle.std.specs.Prelude.{◌≡◌, ◌++◌, ◌∷◌, [], IfOk, OnOk, decimal, filter, map, option_map, string_bytes, take};
+ghost use Rattle.std.specs.Prelude.{◌≡◌, ◌++◌, ◌∷◌, [], IfOk, OnOk, decimal, filter, map, take};
 ghost use Rattle.std.specs.Char.{to_ascii_lowercase};
 ghost use Rattle.page_text.specs.Rows.{chosen_rows, entering, has_reason, has_words, is_asked, is_by, is_for, is_found};
-ghost use Rattle.page_text.specs.Rows.{is_shown, row_item, rows_on, waits_for};
+ghost use Rattle.page_text.specs.Rows.{is_shown, row_item, rows_on, searched, waits_for};
 ghost use Rattle.page_text.specs.Search.{contains};
 
-use super::search::contains;
+use super::search::Search;
 use super::subject::subject_of;
 use gate_rules::Side;
 use itoa::Buffer;
@@ -41,7 +41,8 @@ impl Row {
 }
 
 /// The rows of the items that are asked for, on all pages: the ready ones in gate order, then the others in item order.
-/// It costs O(n log n) for n items, and where words are searched for O(m) more for subjects and words of m bytes.
+/// It costs O(n log n) for n items, and where words are searched for O(m) more for words and subjects of m
+/// bytes in all.
 pub fn chosen_rows(
     alloc: Global,
     state: &State,
@@ -50,10 +51,21 @@ pub fn chosen_rows(
 ) -> Result<Vec<Row>, AllocError>
     ensures { IfOk result (λ rows. rows.items ≡ chosen_rows state.now choice.now verdicts.now) }
 {
+    let mut search = search_of(alloc, choice)?;
     let mut rows = Vec::new(alloc);
-    add_ready(&mut rows, state, choice, verdicts.ready())?;
-    add_out(&mut rows, state, choice, verdicts.out())?;
+    add_ready(&mut rows, state, choice, &mut search, verdicts.ready())?;
+    add_out(&mut rows, state, choice, &mut search, verdicts.out())?;
     Ok(rows)
+}
+
+/// The search for the words that are searched for, if some are.
+fn search_of(alloc: Global, choice: &Choice) -> Result<Option<Search>, AllocError>
+    ensures { IfOk result (λ search. search ≡ searched choice.now.words) }
+{
+    match &choice.words {
+        Some(words) => Ok(Some(Search::new(alloc, words.as_bytes())?)),
+        None => Ok(None),
+    }
 }
 
 /// Those of the rows that are on a page, from 1; page 0 is the first one, too. A page has 100 rows, the last one those
@@ -83,13 +95,16 @@ fn add_ready(
     rows: &mut Vec<Row>,
     state: &State,
     choice: &Choice,
+    search: &mut Option<Search>,
     items: &[Item],
 ) -> Result<(), AllocError>
-    ensures { OnOk result (rows.new.items
+    requires { search.old ≡ searched choice.now.words }
+    ensures rows { OnOk result (rows.new.items
         ≡ rows.old.items ++ filter (is_asked state.now choice.now) (entering 1 items.now)) }
+    ensures search { search.new ≡ search.old }
 {
     for (place, item) in items.iter().enumerate() {
-        add_if_asked(rows, state, choice, Row::Enters(*item, place + 1))?;
+        add_if_asked(rows, state, choice, search, Row::Enters(*item, place + 1))?;
     }
     Ok(())
 }
@@ -99,13 +114,15 @@ fn add_out(
     rows: &mut Vec<Row>,
     state: &State,
     choice: &Choice,
+    search: &mut Option<Search>,
     out: &[Left],
 ) -> Result<(), AllocError>
+    requires { search.old ≡ searched choice.now.words }
     ensures { OnOk result (rows.new.items
         ≡ rows.old.items ++ filter (is_asked state.now choice.now) (map Row.Waits out.now)) }
 {
     for left in out {
-        add_if_asked(rows, state, choice, Row::Waits(*left))?;
+        add_if_asked(rows, state, choice, search, Row::Waits(*left))?;
     }
     Ok(())
 }
@@ -115,24 +132,35 @@ fn add_if_asked(
     rows: &mut Vec<Row>,
     state: &State,
     choice: &Choice,
+    search: &mut Option<Search>,
     row: Row,
 ) -> Result<(), AllocError>
-    ensures { OnOk result (rows.new.items
+    requires { search.old ≡ searched choice.now.words }
+    ensures rows { OnOk result (rows.new.items
         ≡ rows.old.items ++ filter (is_asked state.now choice.now) (row ∷ [])) }
+    ensures search { search.new ≡ search.old }
 {
-    if is_asked(state, choice, row) {
+    if is_asked(state, choice, search, row)? {
         rows.push(row)?;
     }
     Ok(())
 }
 
 /// Whether the row of an item is asked for.
-fn is_asked(state: &State, choice: &Choice, row: Row) -> bool
-    ensures { result ≡ is_asked state.now choice.now row }
+fn is_asked(
+    state: &State,
+    choice: &Choice,
+    search: &mut Option<Search>,
+    row: Row,
+) -> Result<bool, AllocError>
+    requires { search.old ≡ searched choice.now.words }
+    ensures asked { IfOk result (λ asked. asked ≡ is_asked state.now choice.now row) }
+    ensures search { search.new ≡ search.old }
 {
-    is_shown(choice.shown, row)
-        && has_reason(choice.reason, row)
-        && has_words(state, choice, row.item())
+    if !is_shown(choice.shown, row) || !has_reason(choice.reason, row) {
+        return Ok(false);
+    }
+    has_words(state, search, row.item())
 }
 
 /// Whether an item is of the kind that is asked for.
@@ -199,26 +227,32 @@ fn is_by(reason: Reason, side: Side) -> bool
 }
 
 /// Whether an item's subject or change number contains the words that are searched for, if some are.
-fn has_words(state: &State, choice: &Choice, item: Item) -> bool
-    ensures { result ≡ has_words state.now (option_map string_bytes choice.now.words) item }
+fn has_words(state: &State, search: &mut Option<Search>, item: Item) -> Result<bool, AllocError>
+    ensures has { IfOk result (λ has. has ≡ has_words state.now search.old item) }
+    ensures search { search.new ≡ search.old }
 {
-    match &choice.words {
-        Some(words) => is_found(state, words.as_str(), item),
-        None => true,
+    match search {
+        Some(search) => is_found(state, search, item),
+        None => Ok(true),
     }
 }
 
-/// Whether an item's subject or change number contains these words.
-fn is_found(state: &State, words: &str, item: Item) -> bool
-    ensures { result ≡ is_found state.now words.now item }
+/// Whether an item's subject or change number contains the words that are searched for.
+fn is_found(state: &State, search: &mut Search, item: Item) -> Result<bool, AllocError>
+    ensures found { IfOk result (λ found. found ≡ is_found state.now search.old item) }
+    ensures search { search.new ≡ search.old }
 {
-    contains(subject_of(state, item).as_bytes(), words.as_bytes()) || has_digits(item.change, words)
+    if search.finds(subject_of(state, item).as_bytes())? {
+        return Ok(true);
+    }
+    has_digits(search, item.change)
 }
 
-/// Whether a number in decimal contains these words.
-fn has_digits(number: u32, words: &str) -> bool
-    ensures { result ≡ contains (map to_ascii_lowercase words.now) (map to_ascii_lowercase (decimal number)) }
+/// Whether a number in decimal contains the words that are searched for.
+fn has_digits(search: &mut Search, number: u32) -> Result<bool, AllocError>
+    ensures has { IfOk result (λ has. has ≡ contains search.old (map to_ascii_lowercase (decimal number))) }
+    ensures search { search.new ≡ search.old }
 {
     let mut buffer = Buffer::new();
-    contains(buffer.format(number).as_bytes(), words.as_bytes())
+    search.finds(buffer.format(number).as_bytes())
 }
