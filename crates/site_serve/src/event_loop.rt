@@ -17,6 +17,7 @@ use super::opening::Opening;
 use super::places::Places;
 use super::requests::Published;
 use super::session::{Connection, Session};
+use super::setup::ServeFault;
 use super::thread_ends::LoopEnds;
 use byte_ends::Drain;
 use crossbeam_channel::Sender;
@@ -401,7 +402,8 @@ fn hold_pulled<R: Wait, J: Opening, K: Keeps>(
 }
 
 /// Publishes what is held where somebody waits for that, and answers all who wait, so that nobody waits after it. It
-/// brings news where anything was held since news was brought: a pull that handed over nothing new brings none.
+/// brings news where anything was held since news was brought: a pull that handed over nothing new brings none. If memory
+/// is refused that is reported, and what was held is published with what comes next: a journal file has it already.
 fn publish<R: Wait, J: Opening, K: Keeps, E: Drain>(
     rt: &R,
     site: &Site<'_, E, J>,
@@ -422,12 +424,16 @@ fn publish<R: Wait, J: Opening, K: Keeps, E: Drain>(
     if is_more {
         site.metrics.note_kept(group.kept_bytes());
     }
-    if let Ok(receipt) = &published
-        && event_loop.is_news_due
-    {
-        event_loop.is_news_due = false;
-        site.metrics.note_news(event_loop.now);
-        site.news.bring(rt, receipt);
+    match &published {
+        Ok(receipt) if event_loop.is_news_due => {
+            event_loop.is_news_due = false;
+            site.metrics.note_news(event_loop.now);
+            site.news.bring(rt, receipt);
+        }
+        Ok(_) => {}
+        Err(_) => site
+            .errors
+            .report_serve_fault(rt, event_loop.alloc, ServeFault::NoMemory),
     }
     Ok(())
 }
