@@ -349,16 +349,16 @@ fn read_loaded<'n, C: Console>(
         return Ok(Replica::new(alloc));
     };
     let gathering = read_snapshot(Gathering::new(alloc), name, console)?;
-    let replica = record_of(gathering)?;
+    let replica = record_of(console, gathering)?;
     Ok(replica)
 }
 
 /// The record that was gathered.
-fn record_of(gathering: Gathering) -> Result<Replica, Refusal<'static>>
+fn record_of<C: Console>(console: &C, gathering: Gathering) -> Result<Replica, Refusal<'static>>
     ensures record { IfOk result (λ replica. replica ≡ gathering) }
     ensures refused { IfErr result (λ refusal. refusal ≡ Refusal.Memory) }
 {
-    match gathering.joined() {
+    match console.replica_from(gathering) {
         Ok(replica) => Ok(replica),
         Err(_) => Err(Refusal::Memory),
     }
