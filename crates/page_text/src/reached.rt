@@ -16,8 +16,9 @@ use why_text::item_asked;
 pub const MOST: usize = 60;
 
 /// The changes that are reached over names from an item: its own first, then those that it names, then those that
-/// their current items name, and so on, each once. At most 60 of them are looked at for what they name: where there are
-/// more, some may be left out. It costs O(k) times what an item's names cost, for k of them.
+/// their current items name, and so on, each once. Nothing is looked at any more once there are more than 60: some may
+/// be left out then. It costs O(k) times what an item's names cost, for the k of them that are looked at, and O(m²) for
+/// the m names of the last one.
 pub fn reached_from(
     alloc: Global,
     gate: &Gate,
@@ -30,6 +31,9 @@ pub fn reached_from(
     changes.push(item.change)?;
     for at in 0..MOST {
         let found = changes.as_slice();
+        if MOST < found.len() {
+            return Ok(changes);
+        }
         if found.len() <= at {
             return Ok(changes);
         }

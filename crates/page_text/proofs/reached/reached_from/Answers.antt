@@ -8,6 +8,13 @@ loop-at-init c =
     rw (c.in_ok-push.ensures.items, c.new-changes.ensures.items)
     (begun c.args.gate.now c.args.state.now c.args.item)
 
+pub returns-then-found-gt-MOST : goal.returns-then-found-gt-MOST
+returns-then-found-gt-MOST c =
+    let many : 60 < length c.loop-at.changes.items
+    = subst (λ l. 60 < length l) c.as_slice-found.ensures.value c.if-found-gt-MOST.true in
+    whole c.args.gate.now c.args.state.now c.args.item c.loop-at.at c.loop-at.changes.items
+    (λ few. absurd (omega arith)) c.loop-at.invariant
+
 pub returns-then-found-at : goal.returns-then-found-at
 returns-then-found-at c =
     whole c.args.gate.now c.args.state.now c.args.item c.loop-at.at c.loop-at.changes.items
