@@ -50,13 +50,13 @@ pub struct Handed {
 
 /// Takes from a session what the sink lacks, in rounds: the sink's front is written, an answer is read, and once it is
 /// whole its operations are handed over, in their order. After an answer that says that nothing is left, or after 4,096
-/// rounds, `quit` is written and nothing more is read. Refusals: 1 `LongLine`, a line of the answer or that of the sink's
-/// front has more than 524,288 bytes; 2
-/// `BadVersion`, the first line names another version; 3 `ReadFault`, the source failed; 4 `WriteFault`, the drain
-/// failed; 5 `NoMemory`, memory was refused, here or in the sink; 6 `BadAnswer`, a line can't be part of an answer, an
-/// operation is invalid, a 257th one came, or the input ended where a line is awaited; 7 `Closed`, the sink has ended;
-/// 11 `NotListed` and 12 `FarAhead`, a guarded sink was handed an operation that it doesn't let in. Of an answer that
-/// isn't whole nothing is handed over. It costs what the sink costs, and O(n) for n bytes that are read and written.
+/// rounds, `quit` is written and nothing more is read. Refusals: 1 `LongLine`, a line of the answer or that of the
+/// sink's front has more than 524,288 bytes; 2 `BadVersion`, the first line names another version; 3 `ReadFault`, the
+/// source failed; 4 `WriteFault`, the drain failed; 5 `NoMemory`, memory was refused, here or in the sink; 6
+/// `BadAnswer`, a line can't be part of an answer, an operation is invalid, a 257th one came, or the input ended where
+/// a line is awaited; 7 `Closed`, the sink has ended; 11 `NotListed` and 12 `FarAhead`, a guarded sink was handed an
+/// operation that it doesn't let in. Of an answer that isn't whole nothing is handed over. It costs what the sink
+/// costs, and O(n) for n bytes that are read and written.
 pub fn pull_run<S: Source, D: Drain, K: Sink>(
     alloc: Global,
     source: &mut S,
