@@ -897,6 +897,8 @@ class Event:
         self.patch = under(value, "currentPatchSet" if self.is_query else "patchSet")
         self.change, self.set = number_in(under(self.about, "number")), number_in(under(self.patch, "number"))
         self.message, self.revision = under(self.about, "commitMessage"), under(self.patch, "revision")
+        project = under(self.about, "project")
+        self.project = project if isinstance(project, str) else ""
 
     def parsed(self, projects: list | None) -> ParsedLine:
         if not self.is_query and not isinstance(self.kind, str):
@@ -950,15 +952,14 @@ class Event:
         parents = [parent for parent in map(self.parent, named) if parent is not None]
         lost = len(named) - bool(parents) if self.is_query else len(parents[1:])
         if isinstance(self.revision, str):
-            self.known.setdefault(self.revision, (self.change, self.set))
+            self.known.setdefault((self.project, self.revision), (self.change, self.set))
         message, is_cut = kept_message(self.message)
         deed = Deed("patchset", self.change, self.set, message, parents[0] if parents else None)
-        says_all = self.is_query or is_new and parents
         keys = ["commitMessage"] * is_cut + ["dependsOn" if self.is_query else "parents"] * lost
-        return [deed if says_all else Shown(deed)] + keys + ([] if self.is_query else self.mark_votes())
+        return [deed if self.is_query else Shown(deed)] + keys + ([] if self.is_query else self.mark_votes())
 
     def known_as(self, revision):
-        return self.known.get(revision) if isinstance(revision, str) else None
+        return self.known.get((self.project, revision)) if isinstance(revision, str) else None
 
     def parent(self, named) -> int | None:
         if self.is_query:
@@ -1218,8 +1219,8 @@ class Offered(Feed):
         return [] if self.is_recorded(found) else [found]
 
     def is_news(self, deed: Deed) -> bool:
-        """Of a patch set that is known only a parent is news, of a commit that is the same; of another one all is,
-        unless a later one is known, whose message it bears. That there is no vote is none.
+        """Of a patch set that is known without a parent that is news, of a commit that is the same; of another one all
+        is, unless a later one is known, whose message it bears. That there is no vote is none.
         """
         if deed.kind != "patchset":
             return False
@@ -1227,7 +1228,7 @@ class Offered(Feed):
         if held is None:
             return self.state.current.get(deed.change, 0) < deed.set
         message, parent = held[1]
-        return deed.parent is not None and message == deed.message and parent != deed.parent
+        return deed.parent is not None and message == deed.message and parent == -1
 
     def is_recorded(self, deed: Deed) -> bool:
         if deed.kind == "patchset":

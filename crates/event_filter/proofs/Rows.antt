@@ -35,7 +35,7 @@ use Rattle.gerrit_events.specs.Listings.{Ballot, ballot_by, ballot_of, ballots_i
 use Rattle.gerrit_events.specs.Marks.{mark_label, marks_in, reserved_voter}
 use Rattle.gerrit_events.specs.Messages.{has_lost_footers, kept_message}
 use Rattle.gerrit_events.specs.Patches.{ShownPatch, brought_by, message_in, parent_in, parents_in, parents_part, patch_in}
-use Rattle.gerrit_events.specs.Patches.{revision_in, set_in}
+use Rattle.gerrit_events.specs.Patches.{project_in, revision_in, set_in}
 use Rattle.gerrit_events.specs.Projects.{Choice}
 use Rattle.gerrit_events.specs.Reading.{ClaimsAreSettled, claims_of}
 use Rattle.gerrit_events.specs.Revisions.{Revision}
@@ -297,12 +297,12 @@ first_from_one : (found : Option ℕ) (rest : List ℕ) → ((n : ℕ) → found
 first_from_one None rest here later = later
 first_from_one (Some n) rest here later = here n refl
 
-parents_from_one : (known : List Revision) (parents : List Data)
-    → IfSome (slice_get (filter_map (parent_in known QueryLine) parents) 0) (λ n. 1 ≤ n)
-parents_from_one known [] = tt
-parents_from_one known (parent ∷ parents) =
-    first_from_one (parent_in known QueryLine parent) (filter_map (parent_in known QueryLine) parents)
-    (value_from_one (get (codes "number") parent)) (parents_from_one known parents)
+parents_from_one : (known : List Revision) (project : List ℕ) (parents : List Data)
+    → IfSome (slice_get (filter_map (parent_in known project QueryLine) parents) 0) (λ n. 1 ≤ n)
+parents_from_one known project [] = tt
+parents_from_one known project (parent ∷ parents) =
+    first_from_one (parent_in known project QueryLine parent) (filter_map (parent_in known project QueryLine) parents)
+    (value_from_one (get (codes "number") parent)) (parents_from_one known project parents)
 
 -- ---- what a row claims of its commit
 
@@ -330,7 +330,7 @@ faultless_commit known choice line change set message row = record {
   label = tt;
   voter = tt;
   message = kept_fits message;
-  parent = parents_from_one known (parents_part QueryLine line);
+  parent = parents_from_one known (project_in QueryLine line) (parents_part QueryLine line);
 }
 
 row_patch : (choice : Choice) (line : Data) (change set : ℕ) (message : List ℕ) → IsFedRow choice line change set

@@ -326,7 +326,7 @@ listed_now state mid listing bodies are taken label voter good unlisted =
 has_all : (c : Change) (set : ℕ) (message : List ℕ) (parent : Option ℕ)
     → ¬ AddsTo c set (Some (record { message = message; parent = parent })) message parent
 has_all c set message None news = news
-has_all c set message (Some change) news = news.1 refl
+has_all c set message (Some change) news = let none : Some change ≡ None = news.1 in cc
 
 recorded_is_old : (state : State) (change set : ℕ) (message : List ℕ) (parent : Option ℕ)
     → IsRecorded state (patch_set change set message parent) → ¬ IsNews state (patch_set change set message parent)

@@ -1,5 +1,5 @@
 -- What a finding brings to a record: what the record doesn't say of it.
-use Rattle.std.specs.Prelude.{◌≡◌, ◌≢◌, ◌⊎◌, ◌≤◌, ℕ, List, [], ◌∷◌, ◌++◌, Option, Some, None, Bool, ◌&&◌, not, map}
+use Rattle.std.specs.Prelude.{◌≡◌, ◌⊎◌, ◌≤◌, ℕ, List, [], ◌∷◌, ◌++◌, Option, Some, None, Bool, ◌&&◌, not, map}
 use Rattle.std.specs.List.{filter, list_any}
 use Rattle.std.specs.Str.{bytes_eq}
 use Rattle.review_ops.specs.Deed.{Deed, patch_set, withdraw, kept_deed}
@@ -21,12 +21,12 @@ IsSaidByRecord state deed = IsRecorded state deed ⊎ ¬ IsOpenTo state deed
 
 -- ---- a patch set that an event shows
 
--- of one that the record has, the parent is new, where the event knows it and shows the commit that the record has; one
--- that the record hasn't is new, unless a later one is known, whose message it is then
+-- of one that the record has without a parent, the parent is new, where the event knows it and shows the commit that the
+-- record has; one that the record hasn't is new, unless a later one is known, whose message it is then
 abbrev pub AddsTo : Change → ℕ → Option Patch → List ℕ → Option ℕ → Type 0
 AddsTo change set None message parent = (later : ℕ) → IsKnownSet change later → later ≤ set
 AddsTo change set (Some held) message None = ⊥
-AddsTo change set (Some held) message (Some parent) = (held.message ≡ message) × (held.parent ≢ Some parent)
+AddsTo change set (Some held) message (Some parent) = (held.message ≡ message) × (held.parent ≡ None)
 
 -- the record lacks the patch set that is shown, or the parent that is shown of it
 abbrev pub IsNews : State → Deed → Type 0

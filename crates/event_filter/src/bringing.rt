@@ -20,7 +20,7 @@ use std::alloc::Global;
 
 /// What a finding brings to a record, in order: a body that the record doesn't say, or could not say, as a merged
 /// change is neither abandoned nor restored; a patch set that an event shows, where the record hasn't it and no later
-/// one, or has it with this message and another parent than the one that is known; and of a listing a withdrawal of
+/// one, or has it with this message and without the parent that is known; and of a listing a withdrawal of
 /// each vote on the patch set that the record has and it hasn't. Refused is only memory. It costs O(log n + m) for n
 /// changes, patch sets and votes and m bytes of texts, and for a listing of b ballots O(b) beside for each vote of the
 /// patch set.
@@ -116,7 +116,7 @@ fn adds_to(change: &ChangeState, set: u32, message: &str, parent: Option<u32>) -
     let Some(held) = change.sets().get(&set) else {
         return is_latest(change, set);
     };
-    parent.is_some() && held.value().message.as_str() == message && held.value().parent != parent
+    parent.is_some() && held.value().message.as_str() == message && held.value().parent.is_none()
 }
 
 /// Whether no later patch set is known.

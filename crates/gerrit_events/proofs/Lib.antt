@@ -5,3 +5,4 @@ pub mod Messages
 pub mod Remembered
 pub mod Agreeing
 pub mod Settled
+pub mod Parents

@@ -53,12 +53,11 @@ lost_parents known QueryLine line =
     length (parents_part QueryLine line) - length (take 1 (parents_in known QueryLine line))
 lost_parents known kind line = length (parents_in known kind line) - 1
 
--- a new patch set is drafted where a parent is known, that of a query always, and every other one is shown
-abbrev pub patch_claim : Kind → Option ℕ → Deed → Claim
-patch_claim QueryLine parent deed = drafts deed
-patch_claim PatchSetCreated None deed = shows deed
-patch_claim PatchSetCreated (Some parent) deed = drafts deed
-patch_claim kind parent deed = shows deed
+-- the patch set of a query is drafted, and that of an event shown: which change its parent is only Gerrit can say, where
+-- a commit is a patch set of two
+abbrev pub patch_claim : Kind → Deed → Claim
+patch_claim QueryLine deed = drafts deed
+patch_claim kind deed = shows deed
 
 abbrev pub patch_deed : ShownPatch → Option ℕ → Deed
 patch_deed patch parent = patch_set patch.change patch.set (kept_message patch.message) parent
@@ -79,7 +78,7 @@ lost_footers are_lost = if are_lost then bad CommitMessage ∷ [] else []
 -- a patch set with its first known parent, and what is lost of it
 abbrev pub patch_claims : List Revision → Kind → Data → ShownPatch → List Claim
 patch_claims known kind line patch =
-    patch_claim kind (slice_get (parents_in known kind line) 0) (patch_deed patch (slice_get (parents_in known kind line) 0))
+    patch_claim kind (patch_deed patch (slice_get (parents_in known kind line) 0))
     ∷ (lost_footers (has_lost_footers patch.message)
     ++ (replicate (lost_parents known kind line) (bad (parents_key kind)) ++ patch_marks kind line patch))
 

@@ -1,6 +1,7 @@
 -- Which patch set a line brings, and its Git parent.
-use Rattle.std.specs.Prelude.{ℕ, ◌==◌, ◌&&◌, List, filter_map, Bool, false, if◌then◌else◌, Option, Some, None}
+use Rattle.std.specs.Prelude.{ℕ, ◌==◌, ◌&&◌, List, [], ◌++◌, filter_map, Bool, false, if◌then◌else◌, Option, Some, None}
 use Rattle.std.specs.Prelude.{option_and_then, option_map, codes}
+use Rattle.std.specs.Option.{unwrap_or}
 use Rattle.serde_json.specs.Data.{Data}
 use Rattle.serde_json.specs.Find.{get, as_str}
 use Rattle.gerrit_events.specs.declared.kind.Kind.{Kind}
@@ -19,8 +20,17 @@ set_in kind line = number_value (under (codes "number") (set_part kind line))
 abbrev pub message_in : Kind → Data → Option (List ℕ)
 message_in kind line = text_in (under (codes "commitMessage") (change_part kind line))
 
+-- the project of the change; where it isn't said, the empty text
+abbrev pub project_in : Kind → Data → List ℕ
+project_in kind line = unwrap_or (text_in (under (codes "project") (change_part kind line))) []
+
+-- a revision is a commit in a project: one commit may be a patch set in several
+abbrev pub revision_of : List ℕ → List ℕ → List ℕ
+revision_of project commit = project ++ (codes "\n" ++ commit)
+
 abbrev pub revision_in : Kind → Data → Option (List ℕ)
-revision_in kind line = text_in (under (codes "revision") (set_part kind line))
+revision_in kind line =
+    option_map (revision_of (project_in kind line)) (text_in (under (codes "revision") (set_part kind line)))
 
 -- a patch set as a line shows it
 pub record ShownPatch : Type 0 where
@@ -80,10 +90,15 @@ abbrev pub parents_part : Kind → Data → List Data
 parents_part QueryLine line = listed_values (get (codes "dependsOn") line)
 parents_part kind line = listed_values (under (codes "parents") (set_part kind line))
 
--- the change of such a parent, where it is known
-abbrev pub parent_in : List Revision → Kind → Data → Option ℕ
-parent_in known QueryLine parent = number_value (get (codes "number") parent)
-parent_in known kind parent = option_map (λ place. place.0) (option_and_then (revision_place known) (as_str parent))
+-- the change of a commit in a project, where it is known
+abbrev pub change_of_commit : List Revision → List ℕ → Option (List ℕ) → Option ℕ
+change_of_commit known project commit =
+    option_map (λ place. place.0) (option_and_then (revision_place known) (option_map (revision_of project) commit))
+
+-- the change of such a parent, where it is known; a parent is a commit in the project of the change
+abbrev pub parent_in : List Revision → List ℕ → Kind → Data → Option ℕ
+parent_in known project QueryLine parent = number_value (get (codes "number") parent)
+parent_in known project kind parent = change_of_commit known project (as_str parent)
 
 abbrev pub parents_in : List Revision → Kind → Data → List ℕ
-parents_in known kind line = filter_map (parent_in known kind) (parents_part kind line)
+parents_in known kind line = filter_map (parent_in known (project_in kind line) kind) (parents_part kind line)

@@ -1,5 +1,5 @@
--- The revisions that a run has seen: of each the change and the patch set, the oldest first. How many are kept is the
--- project's own.
+-- The revisions that a run has seen, each by its project and its commit: of each the change and the patch set, the
+-- oldest first. How many are kept is the project's own.
 use Rattle.std.specs.Prelude.{ℕ, ◌-◌, List, [], ◌∷◌, ◌++◌, length, drop, if◌then◌else◌, Option, is_some}
 use Rattle.std.specs.Str.{bytes_eq}
 use Rattle.std.specs.Map.{lookup}

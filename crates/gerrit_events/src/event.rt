@@ -12,7 +12,7 @@ ghost use Rattle.gerrit_events.specs.Claims.{vote_claims, vote_of, with_set};
 ghost use Rattle.gerrit_events.specs.declared.kind.Kind.TheVariants.{QueryLine};
 ghost use Rattle.gerrit_events.specs.Listings.{ballot_of, ballot_shown, ballots_in, mark_ballot};
 ghost use Rattle.gerrit_events.specs.Marks.{marks_in};
-ghost use Rattle.gerrit_events.specs.Patches.{brought_by, change_in, parent_in, parents_in, set_in};
+ghost use Rattle.gerrit_events.specs.Patches.{brought_by, change_in, change_of_commit, parent_in, parents_in, set_in};
 ghost use Rattle.gerrit_events.specs.PatchShown.{patch_shown};
 ghost use Rattle.gerrit_events.specs.Trees.{data_in};
 ghost use Rattle.gerrit_events.specs.Values.{listed_values};
@@ -27,7 +27,7 @@ use super::line::Line;
 use super::listing::{Ballot, Listing};
 use super::mark::{Mark, RESERVED_VOTER};
 use super::message::kept_message;
-use super::patch::Patch;
+use super::patch::{Patch, revision_of};
 use super::tree::{member, text};
 use super::value::{listed, number_in, text_in, under, user_in, value_in};
 use json::Value;
@@ -52,24 +52,28 @@ pub struct Event<'k, 'v, 'a> {
 
 impl<'k, 'v, 'a> Event<'k, 'v, 'a> {
     /// Each attribute is looked up once.
-    pub fn new(alloc: Global, known: &'k Revisions, line: Line<'v, 'a>) -> Event<'k, 'v, 'a>
-        ensures known { result.known.now ≡ known.entry.now }
-        ensures line { result.line ≡ line.entry }
+    pub fn new(
+        alloc: Global,
+        known: &'k Revisions,
+        line: Line<'v, 'a>,
+    ) -> Result<Event<'k, 'v, 'a>, NoMemory>
+        ensures known { IfOk result (λ event. event.known.now ≡ known.entry.now) }
+        ensures line { IfOk result (λ event. event.line ≡ line.entry) }
     {
         let change_found = line.change_part();
         let set_found = line.set_part();
         let change = number_in(under("number", change_found));
         let set = number_in(under("number", set_found));
         let patch = line.patch(change, set, change_found, set_found);
-        let brought = line.brought(known, patch);
-        Event {
+        let brought = line.brought(alloc, known, patch)?;
+        Ok(Event {
             alloc,
             known,
             line,
             change,
             set,
             brought,
-        }
+        })
     }
 
     /// What the line claims, in order. It costs O(n) for n bytes of the line, and a look-up for each parent.
@@ -90,16 +94,29 @@ impl<'k, 'v, 'a> Event<'k, 'v, 'a> {
         self.brought
     }
 
-    /// The change of a parent, where it is known.
-    fn parent(&self, parent: &Value<'_>) -> Option<u32>
-        ensures { result ≡ parent_in self.now.known.now self.now.line.kind (data_in parent.now) }
+    /// The change of a parent in this project, where it is known.
+    fn parent(&self, project: &str, parent: &Value<'_>) -> Result<Option<u32>, NoMemory>
+        ensures { IfOk result (λ change. change
+            ≡ parent_in self.now.known.now project.now self.now.line.kind (data_in parent.now)) }
     {
         match self.line.kind {
-            Kind::QueryLine => number_in(member(parent, "number")),
-            _ => {
-                let (change, _set) = self.known.place_of(text(parent)?)?;
-                Some(change)
-            }
+            Kind::QueryLine => Ok(number_in(member(parent, "number"))),
+            _ => self.change_of_commit(project, text(parent)),
+        }
+    }
+
+    /// The change of a commit in this project, where it is known.
+    fn change_of_commit(&self, project: &str, commit: Option<&str>) -> Result<Option<u32>, NoMemory>
+        ensures { IfOk result (λ change. change
+            ≡ change_of_commit self.now.known.now project.now (option_map (λ text. text.now) commit.entry)) }
+    {
+        let Some(commit) = commit else {
+            return Ok(None);
+        };
+        let revision = revision_of(self.alloc, project, commit)?;
+        match self.known.place_of(revision.as_str()) {
+            Some((change, _set)) => Ok(Some(change)),
+            None => Ok(None),
         }
     }
 
@@ -109,9 +126,10 @@ impl<'k, 'v, 'a> Event<'k, 'v, 'a> {
             ≡ parents_in self.now.known.now self.now.line.kind (data_in self.now.line.value.now)) }
     {
         let mut parents = Vec::new(self.alloc);
+        let project = self.line.project();
         let values = self.line.parents_part();
         for value in values {
-            let Some(change) = self.parent(value) else {
+            let Some(change) = self.parent(project, value)? else {
                 continue;
             };
             parents.push(change)?;
@@ -221,23 +239,19 @@ impl<'k, 'v, 'a> Event<'k, 'v, 'a> {
             message: kept.text,
             parent,
         };
-        add(claims, self.patch_claim(parent, draft))?;
+        add(claims, self.patch_claim(draft))?;
         add_lost_footers(claims, kept.is_cut)?;
         let lost = self.lost_parents(parents.as_slice());
         add_bad(claims, self.line.parents_key(), lost)?;
         self.add_patch_marks(claims, patch)
     }
 
-    /// What is claimed of a patch set with this parent.
-    fn patch_claim(&self, parent: Option<u32>, draft: Draft) -> Claim
-        ensures { result ≡ patch_claim self.now.line.kind parent (deed_of draft) }
+    /// What is claimed of a patch set.
+    fn patch_claim(&self, draft: Draft) -> Claim
+        ensures { result ≡ patch_claim self.now.line.kind (deed_of draft) }
     {
         match self.line.kind {
             Kind::QueryLine => Claim::drafts(draft),
-            Kind::PatchSetCreated => match parent {
-                None => Claim::shows(draft),
-                Some(_) => Claim::drafts(draft),
-            },
             _ => Claim::shows(draft),
         }
     }

@@ -13,7 +13,7 @@ use std::marker::Model;
 /// How many revisions are kept.
 const MOST: usize = 100000;
 
-/// A revision, and of which patch set it is.
+/// A revision, which is a commit in a project, and of which patch set it is.
 #[derive(Drop)]
 pub struct Seen {
     pub revision: String,

@@ -20,7 +20,7 @@
 //! | `stats`, `error` | nothing: the answer to a query ends |
 //! | none | a row of a query: its patch set, all votes, and the status |
 //!
-//! Each event but `dropped-output` brings its patch set first, unless this run has brought it.
+//! Each event but `dropped-output` shows its patch set first, unless this run has brought it.
 //!
 //! An example of its use:
 //!

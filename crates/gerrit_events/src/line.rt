@@ -1,13 +1,15 @@
 //! A line of a known kind, and where its attributes are.
 
-ghost use Rattle.std.specs.Prelude.{◌≡◌, map, option_map};
+ghost use Rattle.std.specs.Prelude.{◌≡◌, [], IfOk, map, option_map};
+ghost use Rattle.std.specs.Option.{unwrap_or};
 ghost use Rattle.gerrit_events.specs.Claims.{parents_key};
 ghost use Rattle.gerrit_events.specs.Kinds.{account_part, approvals_part, change_part, set_part};
 ghost use Rattle.gerrit_events.specs.Parts.{part_by};
-ghost use Rattle.gerrit_events.specs.Patches.{brought_by, change_in, parents_part, patch_in, set_in, unless_brought};
-ghost use Rattle.gerrit_events.specs.Patches.{was_brought};
+ghost use Rattle.gerrit_events.specs.Patches.{brought_by, change_in, parents_part, patch_in, project_in, set_in};
+ghost use Rattle.gerrit_events.specs.Patches.{unless_brought, was_brought};
 ghost use Rattle.gerrit_events.specs.PatchShown.{patch_shown};
 ghost use Rattle.gerrit_events.specs.Trees.{data_in};
+ghost use Rattle.gerrit_events.specs.Values.{text_in};
 
 use super::fault::EventKey;
 use super::kind::Kind;
@@ -18,6 +20,8 @@ use super::patch::Patch;
 use super::tree::member;
 use super::value::{listed, number_in, text_in, under};
 use json::Value;
+use lattice_core::NoMemory;
+use std::alloc::Global;
 
 /// A line of a known kind.
 #[derive(Clone, Copy)]
@@ -134,48 +138,80 @@ impl<'v, 'a> Line<'v, 'a> {
         let change = change?;
         let set = set?;
         let message = text_in(under("commitMessage", change_found))?;
-        let revision = text_in(under("revision", set_found));
+        let commit = text_in(under("revision", set_found));
         Some(Patch {
             change,
             set,
             message,
-            revision,
+            project: text_or_none(under("project", change_found)),
+            commit,
         })
     }
 
+    /// The project of the change; where it isn't said, the empty text.
+    pub fn project(&self) -> &'a str
+        ensures { result.now ≡ project_in self.now.kind (data_in self.now.value.now) }
+    {
+        text_or_none(under("project", self.change_part()))
+    }
+
     /// The patch set that the line brings, by that which it has.
-    pub fn brought(&self, known: &Revisions, patch: Option<Patch<'a>>) -> Option<Patch<'a>>
+    pub fn brought(
+        &self,
+        alloc: Global,
+        known: &Revisions,
+        patch: Option<Patch<'a>>,
+    ) -> Result<Option<Patch<'a>>, NoMemory>
         requires { option_map patch_shown patch ≡ patch_in self.now.kind (data_in self.now.value.now) }
-        ensures { option_map patch_shown result ≡ brought_by known.now self.now.kind (data_in self.now.value.now) }
+        ensures { IfOk result (λ brought. option_map patch_shown brought
+            ≡ brought_by known.now self.now.kind (data_in self.now.value.now)) }
     {
         match self.kind {
-            Kind::PatchSetCreated | Kind::QueryLine => patch,
-            Kind::DroppedOutput | Kind::QueryStats | Kind::QueryError => None,
-            _ => unless_brought(known, patch?),
+            Kind::PatchSetCreated | Kind::QueryLine => Ok(patch),
+            Kind::DroppedOutput | Kind::QueryStats | Kind::QueryError => Ok(None),
+            _ => match patch {
+                None => Ok(None),
+                Some(patch) => unless_brought(alloc, known, patch),
+            },
         }
     }
 }
 
-/// The patch set, unless this run has brought it.
-fn unless_brought<'a>(known: &Revisions, patch: Patch<'a>) -> Option<Patch<'a>>
-    ensures { option_map patch_shown result ≡ unless_brought known.now (patch_shown patch.entry) }
+/// The text that a value is; where it is none, the empty text.
+fn text_or_none<'a>(found: Option<&Value<'a>>) -> &'a str
+    ensures { result.now ≡ unwrap_or (text_in (option_map (λ value. data_in value.now) found.entry)) [] }
 {
-    if was_brought(known, &patch) {
-        None
+    match text_in(found) {
+        Some(text) => text,
+        None => "",
+    }
+}
+
+/// The patch set, unless this run has brought it.
+fn unless_brought<'a>(
+    alloc: Global,
+    known: &Revisions,
+    patch: Patch<'a>,
+) -> Result<Option<Patch<'a>>, NoMemory>
+    ensures { IfOk result (λ brought. option_map patch_shown brought
+        ≡ unless_brought known.now (patch_shown patch.entry)) }
+{
+    if was_brought(alloc, known, &patch)? {
+        Ok(None)
     } else {
-        Some(patch)
+        Ok(Some(patch))
     }
 }
 
 /// Whether this run has brought the patch set.
-fn was_brought(known: &Revisions, patch: &Patch<'_>) -> bool
-    ensures { result ≡ was_brought known.now (patch_shown patch.now) }
+fn was_brought(alloc: Global, known: &Revisions, patch: &Patch<'_>) -> Result<bool, NoMemory>
+    ensures { IfOk result (λ brought. brought ≡ was_brought known.now (patch_shown patch.now)) }
 {
-    let Some(revision) = patch.revision else {
-        return false;
+    let Some(revision) = patch.revision(alloc)? else {
+        return Ok(false);
     };
-    match known.place_of(revision) {
-        None => false,
-        Some((change, set)) => change == patch.change && set == patch.set,
+    match known.place_of(revision.as_str()) {
+        None => Ok(false),
+        Some((change, set)) => Ok(change == patch.change && set == patch.set),
     }
 }

@@ -155,23 +155,23 @@ fn read_fed(
         ≡ patches_after known.old (brought_by known.old line.entry.kind (data_in line.entry.value.now))) }
     ensures kept { OnErr result (known.new ≡ known.old) }
 {
-    let event = Event::new(alloc, known, line);
+    let event = Event::new(alloc, known, line)?;
     let findings = settled(alloc, event.claims()?)?;
     match event.brought() {
         None => {}
-        Some(patch) => learn(known, &patch)?,
+        Some(patch) => learn(alloc, known, &patch)?,
     }
     Ok(findings)
 }
 
 /// Learns of a patch set that was brought.
-fn learn(known: &mut Revisions, patch: &Patch<'_>) -> Result<(), NoMemory>
+fn learn(alloc: Global, known: &mut Revisions, patch: &Patch<'_>) -> Result<(), NoMemory>
     ensures ok { OnOk result (known.new ≡ learned known.old (patch_shown patch.now)) }
     ensures err { OnErr result (known.new ≡ known.old) }
 {
-    match patch.revision {
+    match patch.revision(alloc)? {
         None => Ok(()),
-        Some(revision) => known.learn(revision, patch.change, patch.set),
+        Some(revision) => known.learn(revision.as_str(), patch.change, patch.set),
     }
 }
 

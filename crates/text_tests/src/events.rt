@@ -123,7 +123,15 @@ const CREATED: &str =
     r#"{"type":"patchset-created","change":{"project":"p","branch":"main","number":101,"commitMessage":"m\n"},"patchSet":{"number":1,"revision":"a1","parents":["f0"]},"uploader":{"username":"ann"},"eventCreatedOn":1}"#;
 
 const CHILD: &str =
-    r#"{"type":"patchset-created","change":{"number":"102","commitMessage":"n"},"patchSet":{"number":"2","revision":"b2","parents":["f0","a1","a1"]}}"#;
+    r#"{"type":"patchset-created","change":{"project":"p","number":"102","commitMessage":"n"},"patchSet":{"number":"2","revision":"b2","parents":["f0","a1","a1"]}}"#;
+
+/// The same commit as that of `CREATED`, in another project.
+const FORKED: &str =
+    r#"{"type":"patchset-created","change":{"project":"q","number":105,"commitMessage":"m\n"},"patchSet":{"number":1,"revision":"a1","parents":["f0"]}}"#;
+
+/// Its child there.
+const FORKED_CHILD: &str =
+    r#"{"type":"comment-added","author":{"username":"ann"},"change":{"project":"q","number":106,"commitMessage":"n"},"patchSet":{"number":1,"revision":"c1","parents":["a1"]}}"#;
 
 /// Patch sets that are made, with parents and without, and what is amiss with others.
 const PATCH_SETS: &[Row] = &[
@@ -137,7 +145,19 @@ const PATCH_SETS: &[Row] = &[
     },
     Row {
         lines: &[CREATED, CHILD],
-        found: "{\"change\":102,\"message\":\"n\",\"op\":\"patchset\",\"parent\":101,\"set\":2}\n! BadEvent parents\n",
+        found: "~ {\"change\":102,\"message\":\"n\",\"op\":\"patchset\",\"parent\":101,\"set\":2}\n! BadEvent parents\n",
+    },
+    Row {
+        lines: &[CREATED, FORKED_CHILD],
+        found: "~ {\"change\":106,\"message\":\"n\",\"op\":\"patchset\",\"set\":1}\n",
+    },
+    Row {
+        lines: &[CREATED, FORKED, FORKED_CHILD],
+        found: "~ {\"change\":106,\"message\":\"n\",\"op\":\"patchset\",\"parent\":105,\"set\":1}\n",
+    },
+    Row {
+        lines: &[FORKED, CREATED, CHILD],
+        found: "~ {\"change\":102,\"message\":\"n\",\"op\":\"patchset\",\"parent\":101,\"set\":2}\n! BadEvent parents\n",
     },
     Row {
         lines: &[CHILD],
@@ -169,7 +189,7 @@ fn patch_sets_are_brought(rt: HostRuntime) {
 }
 
 const COMMENTED: &str =
-    r#"{"author":{"name":"Zuul","username":"zuul"},"approvals":[{"type":"Verified","description":"Verified","value":"2","oldValue":"1"},{"type":"Code-Review","value":"0","oldValue":"1"},{"type":"Workflow"}],"comment":"Patch Set 1: Verified+2","patchSet":{"number":1,"revision":"a1","parents":[]},"change":{"number":101,"commitMessage":"m"},"type":"comment-added"}"#;
+    r#"{"author":{"name":"Zuul","username":"zuul"},"approvals":[{"type":"Verified","description":"Verified","value":"2","oldValue":"1"},{"type":"Code-Review","value":"0","oldValue":"1"},{"type":"Workflow"}],"comment":"Patch Set 1: Verified+2","patchSet":{"number":1,"revision":"a1","parents":[]},"change":{"project":"p","number":101,"commitMessage":"m"},"type":"comment-added"}"#;
 
 const VOTES: &str =
     "{\"change\":101,\"label\":\"verified\",\"op\":\"vote\",\"set\":1,\"value\":2,\"voter\":\"zuul\"}\n{\"change\":101,\"label\":\"code-review\",\"op\":\"withdraw\",\"set\":1,\"voter\":\"zuul\"}\n~ {\"change\":101,\"label\":\"workflow\",\"op\":\"withdraw\",\"set\":1,\"voter\":\"zuul\"}\n";
@@ -486,14 +506,14 @@ const OTHERS: &[Row] = &[
     Row {
         lines: &[
             CREATED,
-            r#"{"type":"topic-changed","change":{"number":101,"commitMessage":"m"},"patchSet":{"number":1,"revision":"a1"}}"#,
+            r#"{"type":"topic-changed","change":{"project":"p","number":101,"commitMessage":"m"},"patchSet":{"number":1,"revision":"a1"}}"#,
         ],
         found: "",
     },
     Row {
         lines: &[
             CREATED,
-            r#"{"type":"topic-changed","change":{"number":7,"commitMessage":"m"},"patchSet":{"number":1,"revision":"a1"}}"#,
+            r#"{"type":"topic-changed","change":{"project":"p","number":7,"commitMessage":"m"},"patchSet":{"number":1,"revision":"a1"}}"#,
         ],
         found: "~ {\"change\":7,\"message\":\"m\",\"op\":\"patchset\",\"set\":1}\n",
     },
@@ -547,11 +567,12 @@ fn long_event(alloc: Global, letters: usize, text: &str) -> Result<String, Alloc
 /// The change and the patch set of a revision, where it is known.
 type Place = Option<(u32, u32)>;
 
-/// What the revision of a line is known as once the line was read, and whether just this was found in the line.
+/// What the revision of a line without a project is known as once the line was read, and whether just this was found in
+/// the line.
 fn read_long(alloc: Global, line: &str, wanted: &str) -> Option<(Place, bool)> {
     let mut known = Known::new(alloc);
     let found = found_in(alloc, &mut known, line.as_bytes())?;
-    Some((known.place_of("a1"), found.as_str() == wanted))
+    Some((known.place_of("\na1"), found.as_str() == wanted))
 }
 
 /// The same of a patch set with a message of so many letters and then this text.
