@@ -7,9 +7,11 @@
 # MAINTAINER of the environment is the package's maintainer. The package depends on bash and util-linux, and recommends
 # openssh-client, which examples/feed needs. Installing it makes the user of the feed; it starts nothing.
 set -eu
+unset CDPATH
 umask 022
 scripts=$(cd "$(dirname "$0")" && pwd)
 program=${1:-$scripts/../crates/reviewgate/out/reviewgate}
+[[ $program == */* ]] || program=./$program # not one that PATH has
 folder=${2:-.}
 tree=$(mktemp -d)
 chmod 755 "$tree"

@@ -3,12 +3,14 @@
 #
 # Usage: install/install.sh [PROGRAM]      PROGRAM is the built program: crates/reviewgate/out/reviewgate by default
 #
-#   PREFIX     where programs and pages go: /usr/local by default; of letters, digits and the characters _ . / + -
+#   PREFIX     where programs and pages go: /usr/local by default; an absolute path of letters, digits and the
+#              characters _ . / + -
 #   DESTDIR    a folder in whose place all files are put, as the makers of packages need it: none by default
 #   UNITS      where the units go: PREFIX/lib/systemd/system by default
 #
 # It starts nothing and makes no user. `install/install.sh --list` prints the paths without installing anything.
 set -eu
+unset CDPATH
 umask 022
 source_folder=$(cd "$(dirname "$0")/.." && pwd)
 prefix=${PREFIX-/usr/local}
@@ -22,8 +24,8 @@ if [ "${1:-}" = --list ]; then
 elif [ $# -gt 0 ]; then
     program=$1
 fi
-if [[ $prefix == *[^A-Za-z0-9_./+-]* ]]; then
-    printf 'install.sh: PREFIX has a character that units would have to quote: %s\n' "$prefix" >&2
+if [[ $prefix == *[^A-Za-z0-9_./+-]* || $prefix == [^/]* ]]; then
+    printf 'install.sh: PREFIX is no absolute path, or has a character that units would have to quote: %s\n' "$prefix" >&2
     exit 1
 fi
 if [ -z "$only_list" ] && [ ! -x "$program" ]; then
