@@ -106,6 +106,9 @@ fn the_event_has_the_numbers_of_items(rt: HostRuntime) {
 const METRICS: &str = r#"# HELP reviewgate_operations Operations of the record.
 # TYPE reviewgate_operations gauge
 reviewgate_operations 10
+# HELP reviewgate_starts Starts of sites that a pull into the record names.
+# TYPE reviewgate_starts gauge
+reviewgate_starts 1
 # HELP reviewgate_changes Changes of the record by status.
 # TYPE reviewgate_changes gauge
 reviewgate_changes{status="NEW"} 3

@@ -2,7 +2,8 @@
 use Rattle.std.specs.Prelude.{◌≡◌, ℕ, List, ◌++◌, codes, decimal, length}
 use Rattle.json.specs.Print.{print}
 use Rattle.gate_rules.specs.Rules.{GateRules}
-use Rattle.state_core.specs.State.{State}
+use Rattle.review_ops.specs.Operation.{Operation}
+use Rattle.state_core.specs.State.{State, state_of}
 use Rattle.state_core.specs.declared.item.Item.{Item}
 use Rattle.ready_core.specs.Verdicts.{Judged}
 use Rattle.why_text.specs.Asked.{IsItemAsked}
@@ -16,7 +17,7 @@ use Rattle.page_routes.specs.declared.route.Route.{Route}
 use Rattle.page_routes.specs.declared.route.Route.TheVariants as route
 use Rattle.page_text.specs.declared.facts.Facts.{Facts}
 use Rattle.page_text.specs.Items.{items_tokens}
-use Rattle.page_text.specs.Metrics.{metrics_of}
+use Rattle.page_text.specs.Metrics.{AreMetrics}
 use Rattle.page_text.specs.Problem.{problem_tokens}
 use Rattle.page_text.specs.Rows.{chosen_rows}
 use Rattle.page_text.specs.Site.{site_tokens}
@@ -81,23 +82,28 @@ IsOfRecord route.Script = ⊥
 IsOfRecord route.Icon = ⊥
 IsOfRecord route = Unit {0}
 
--- the answer under a gate, to a record of so many operations with this state and these verdicts
-abbrev pub IsPageAnswer : GateRules → State → ℕ → Judged → Facts → Route → Page → Type 0
-IsPageAnswer gate state operations verdicts facts (route.List choice) page =
-    IsListPage gate state verdicts choice.page (chosen_rows state choice verdicts) page
-IsPageAnswer gate state operations verdicts facts (route.Change place) page =
-    IsOfItem state place (IsItemPage state) (IsPage NotFound kind.Html) page
-IsPageAnswer gate state operations verdicts facts route.Status page =
-    IsText Found kind.Json (print (site_tokens operations verdicts facts)) page
-IsPageAnswer gate state operations verdicts facts (route.Items choice) page =
-    IsText Found kind.Json (print (items_tokens state choice.page (chosen_rows state choice verdicts))) page
-IsPageAnswer gate state operations verdicts facts (route.ChangeData place) page =
-    IsOfItem state place (IsItemData verdicts) (IsText NotFound kind.Problem (print problem_tokens)) page
-IsPageAnswer gate state operations verdicts facts route.Events page =
-    IsText Found kind.Events (event_text (length verdicts.ready) (length verdicts.out) operations) page
-IsPageAnswer gate state operations verdicts facts route.Metrics page =
-    IsText Found kind.Metrics (metrics_of gate state operations verdicts facts) page
-IsPageAnswer gate state operations verdicts facts route.Health page = IsSamePage route.Health page
-IsPageAnswer gate state operations verdicts facts route.Style page = IsSamePage route.Style page
-IsPageAnswer gate state operations verdicts facts route.Script page = IsSamePage route.Script page
-IsPageAnswer gate state operations verdicts facts route.Icon page = IsSamePage route.Icon page
+-- the page of all metrics
+abbrev pub IsMetricsPage : GateRules → List Operation → Judged → Facts → Page → Type 0
+IsMetricsPage gate journal verdicts facts page =
+    (text : List ℕ) × AreMetrics gate journal verdicts facts text × IsText Found kind.Metrics text page
+
+-- the answer under a gate, to a record with these verdicts on its state
+abbrev pub IsPageAnswer : GateRules → List Operation → Judged → Facts → Route → Page → Type 0
+IsPageAnswer gate journal verdicts facts (route.List choice) page =
+    IsListPage gate (state_of journal) verdicts choice.page (chosen_rows (state_of journal) choice verdicts) page
+IsPageAnswer gate journal verdicts facts (route.Change place) page =
+    IsOfItem (state_of journal) place (IsItemPage (state_of journal)) (IsPage NotFound kind.Html) page
+IsPageAnswer gate journal verdicts facts route.Status page =
+    IsText Found kind.Json (print (site_tokens (length journal) verdicts facts)) page
+IsPageAnswer gate journal verdicts facts (route.Items choice) page =
+    IsText Found kind.Json
+    (print (items_tokens (state_of journal) choice.page (chosen_rows (state_of journal) choice verdicts))) page
+IsPageAnswer gate journal verdicts facts (route.ChangeData place) page =
+    IsOfItem (state_of journal) place (IsItemData verdicts) (IsText NotFound kind.Problem (print problem_tokens)) page
+IsPageAnswer gate journal verdicts facts route.Events page =
+    IsText Found kind.Events (event_text (length verdicts.ready) (length verdicts.out) (length journal)) page
+IsPageAnswer gate journal verdicts facts route.Metrics page = IsMetricsPage gate journal verdicts facts page
+IsPageAnswer gate journal verdicts facts route.Health page = IsSamePage route.Health page
+IsPageAnswer gate journal verdicts facts route.Style page = IsSamePage route.Style page
+IsPageAnswer gate journal verdicts facts route.Script page = IsSamePage route.Script page
+IsPageAnswer gate journal verdicts facts route.Icon page = IsSamePage route.Icon page

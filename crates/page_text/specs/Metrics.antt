@@ -1,14 +1,17 @@
 -- The metrics of a site. The names follow Prometheus's rules ("Metric and label naming"); what is counted is the
 -- project's own.
-use Rattle.std.specs.Prelude.{ℕ, zero, suc, Bool, true, false, List, [], ◌∷◌, ◌++◌, Option, None, Some, codes}
+use Rattle.std.specs.Prelude.{◌≡◌, ℕ, zero, suc, Bool, true, false, List, [], ◌∷◌, ◌++◌, Option, None, Some, codes}
 use Rattle.std.specs.Prelude.{count_by, decimal, flat_map, length, string_bytes}
+use Rattle.std.specs.FinMap.{len}
 use Rattle.change_core.specs.Status.{status_name}
 use Rattle.change_core.specs.declared.life.Status.{Status}
 use Rattle.change_core.specs.declared.life.Status.TheVariants.{New, Abandoned, Merged}
 use Rattle.gate_rules.specs.Rules.{GateRules}
 use Rattle.gate_rules.specs.declared.condition.Side.{Side}
 use Rattle.gate_rules.specs.declared.condition.Side.TheVariants.{Require, Reject}
-use Rattle.state_core.specs.State.{State}
+use Rattle.replica_core.specs.Front.{IsFront, Reaches}
+use Rattle.review_ops.specs.Operation.{Operation}
+use Rattle.state_core.specs.State.{State, state_of}
 use Rattle.ready_core.specs.Verdicts.{Judged}
 use Rattle.ready_core.specs.declared.verdicts.Left.{Left}
 use Rattle.report_text.specs.StateText.{joined}
@@ -35,10 +38,16 @@ status_counts_text state =
     family (codes "reviewgate_changes") (codes "gauge") (codes "Changes of the record by status.")
     ++ status_text state New ++ status_text state Abandoned ++ status_text state Merged
 
--- the metrics of the record: its operations, its changes, and the items that are ready
-abbrev pub record_text : ℕ → State → ℕ → List ℕ
-record_text operations state ready =
-    gauge (codes "reviewgate_operations") (codes "Operations of the record.") operations ++ status_counts_text state
+-- how many starts of sites the front of a journal has
+abbrev pub HasStarts : List Operation → ℕ → Type 0
+HasStarts journal starts = (front : Reaches) × IsFront journal front × (starts ≡ len front)
+
+-- the metrics of the record: its operations, the starts of its front, its changes, and the items that are ready
+abbrev pub record_text : ℕ → ℕ → State → ℕ → List ℕ
+record_text operations starts state ready =
+    gauge (codes "reviewgate_operations") (codes "Operations of the record.") operations
+    ++ gauge (codes "reviewgate_starts") (codes "Starts of sites that a pull into the record names.") starts
+    ++ status_counts_text state
     ++ gauge (codes "reviewgate_ready_items") (codes "Items that may enter the pipeline.") ready
 
 -- how many items this cause holds up
@@ -189,12 +198,19 @@ now_text facts =
     ++ journal_figures facts.journal ++ heard_text facts.heard_ms
 
 -- the metrics of the record, of what holds up items, of the site, of its peers, and of what it served
-abbrev pub figures_text : GateRules → State → ℕ → Judged → Facts → List ℕ
-figures_text gate state operations verdicts facts =
-    record_text operations state (length verdicts.ready) ++ all_held_text gate verdicts.out
+abbrev pub figures_text : GateRules → State → ℕ → ℕ → Judged → Facts → List ℕ
+figures_text gate state operations starts verdicts facts =
+    record_text operations starts state (length verdicts.ready) ++ all_held_text gate verdicts.out
     ++ site_text facts.site facts.start facts.news_ms ++ peers_text facts.peers.items
     ++ served_text facts.sessions facts.publishes facts.requests facts.refused_hosts ++ update_text facts.update_us
 
 -- all metrics: these, and those of the present activity
-abbrev pub metrics_of : GateRules → State → ℕ → Judged → Facts → List ℕ
-metrics_of gate state operations verdicts facts = figures_text gate state operations verdicts facts ++ now_text facts
+abbrev pub metrics_of : GateRules → State → ℕ → ℕ → Judged → Facts → List ℕ
+metrics_of gate state operations starts verdicts facts =
+    figures_text gate state operations starts verdicts facts ++ now_text facts
+
+-- all metrics of a site with this record
+abbrev pub AreMetrics : GateRules → List Operation → Judged → Facts → List ℕ → Type 0
+AreMetrics gate journal verdicts facts text =
+    (starts : ℕ) × HasStarts journal starts
+    × (text ≡ metrics_of gate (state_of journal) (length journal) starts verdicts facts)

@@ -5,9 +5,8 @@ ghost use Rattle.json.specs.Print.{print};
 ghost use Rattle.state_core.specs.State.{state_of};
 ghost use Rattle.ready_core.specs.Verdicts.{AreVerdicts};
 ghost use Rattle.page_text.specs.Answer.{IsPageAnswer, IsItemData, IsItemPage, IsListPage, IsOfItem, IsOfRecord};
-ghost use Rattle.page_text.specs.Answer.{IsPage, IsSamePage, IsText, event_text};
+ghost use Rattle.page_text.specs.Answer.{IsMetricsPage, IsPage, IsSamePage, IsText, event_text};
 ghost use Rattle.page_text.specs.Items.{items_tokens};
-ghost use Rattle.page_text.specs.Metrics.{metrics_of};
 ghost use Rattle.page_text.specs.Problem.{problem_tokens};
 ghost use Rattle.page_text.specs.Rows.{chosen_rows};
 ghost use Rattle.page_text.specs.Site.{site_tokens};
@@ -33,8 +32,8 @@ use why_text::item_asked;
 /// What is answered to a route: of a change that isn't known, or of which that patch set isn't, a page that says so,
 /// with the status `NotFound`, and else what is asked for, with the status `Found`. The verdicts are those of the
 /// replica's state under the gate. Refusal: memory was refused. It costs O(n) for n items, and for a page of the list
-/// O(k log n) more for k items in the chains of its rows, for metrics O(n k) under a gate with k approvals, and where
-/// words are searched for O(n log n + m) for words and subjects of m bytes in all.
+/// O(k log n) more for k items in the chains of its rows, for metrics O(n k + s log s) under a gate with k approvals and
+/// for s starts of sites, and where words are searched for O(n log n + m) for words and subjects of m bytes in all.
 pub fn page_of(
     alloc: Global,
     route: &Route,
@@ -44,8 +43,7 @@ pub fn page_of(
     facts: &Facts,
 ) -> Result<Page, AllocError>
     requires { AreVerdicts gate.now (state_of replica.now) verdicts.now }
-    ensures { IfOk result
-        (IsPageAnswer gate.now (state_of replica.now) (length replica.now) verdicts.now facts.now route.now) }
+    ensures { IfOk result (IsPageAnswer gate.now replica.now verdicts.now facts.now route.now) }
 {
     match answer(alloc, route, gate, replica, verdicts, facts) {
         Ok(page) => Ok(page),
@@ -63,8 +61,7 @@ fn answer(
     facts: &Facts,
 ) -> Result<Page, NoMemory>
     requires { AreVerdicts gate.now (state_of replica.now) verdicts.now }
-    ensures { IfOk result
-        (IsPageAnswer gate.now (state_of replica.now) (length replica.now) verdicts.now facts.now route.now) }
+    ensures { IfOk result (IsPageAnswer gate.now replica.now verdicts.now facts.now route.now) }
 {
     match route {
         Route::List(choice) => list_answer(alloc, choice, gate, replica, verdicts, facts),
@@ -186,8 +183,7 @@ fn metrics_answer(
     verdicts: &Verdicts,
     facts: &Facts,
 ) -> Result<Page, NoMemory>
-    ensures { IfOk result (IsText Status.Found Kind.Metrics
-        (metrics_of gate.now (state_of replica.now) (length replica.now) verdicts.now facts.now)) }
+    ensures { IfOk result (IsMetricsPage gate.now replica.now verdicts.now facts.now) }
 {
     let body = metrics_text(alloc, gate, replica, verdicts, facts)?;
     Ok(found(Kind::Metrics, body))

@@ -1,11 +1,11 @@
 //! The metrics of a site, in the text format of Prometheus.
 
-ghost use Rattle.std.specs.Prelude.{◌≡◌, IfOk, flat_map, length};
+ghost use Rattle.std.specs.Prelude.{IfOk, flat_map, length};
 ghost use Rattle.markup_text.specs.Growing.{Adds};
 ghost use Rattle.state_core.specs.State.{state_of};
-ghost use Rattle.page_text.specs.Metrics.{age_text, all_held_text, status_counts_text, figures_text, held_text, info_text};
-ghost use Rattle.page_text.specs.Metrics.{labels_text, metrics_of, record_text, served_text, site_text, status_text};
-ghost use Rattle.page_text.specs.Metrics.{update_text};
+ghost use Rattle.page_text.specs.Metrics.{AreMetrics, HasStarts, age_text, all_held_text, status_counts_text, figures_text};
+ghost use Rattle.page_text.specs.Metrics.{held_text, info_text, labels_text, record_text, served_text, site_text};
+ghost use Rattle.page_text.specs.Metrics.{status_text, update_text};
 
 use super::counts::{Counted, count_of};
 use super::facts::Facts;
@@ -26,7 +26,8 @@ use state_core::State;
 use std::alloc::Global;
 
 /// The text of the metrics: of the record, of what holds up items, of the site, of its peers, of what it served, of its
-/// threads, of its journal, and of its feeds. It costs O(n k) for n items and k approvals of the gate.
+/// threads, of its journal, and of its feeds. It costs O(n k + s log s) for n items, k approvals of the gate and s
+/// starts of sites.
 pub fn metrics_text(
     alloc: Global,
     gate: &Gate,
@@ -34,14 +35,22 @@ pub fn metrics_text(
     verdicts: &Verdicts,
     facts: &Facts,
 ) -> Result<Vec<u8>, NoMemory>
-    ensures { IfOk result (λ text. text.items
-        ≡ metrics_of gate.now (state_of replica.now) (length replica.now) verdicts.now facts.now) }
+    ensures { IfOk result (λ text. AreMetrics gate.now replica.now verdicts.now facts.now text.items) }
 {
+    let starts = starts_of(replica)?;
     let mut text = Lines::new(alloc);
-    add_figures(alloc, &mut text, gate, replica, verdicts, facts);
+    add_figures(alloc, &mut text, gate, replica, starts, verdicts, facts);
     add_now(&mut text, facts);
     let bytes = text.end()?;
     Ok(bytes)
+}
+
+/// How many starts of sites the record's front has.
+fn starts_of(replica: &Replica) -> Result<u64, NoMemory>
+    ensures { IfOk result (HasStarts replica.now) }
+{
+    let front = replica.front()?;
+    Ok(front.rows().len() as u64)
 }
 
 /// Adds the metrics of the record, of what holds up items, of the site, of its peers, and of what it served.
@@ -50,13 +59,14 @@ fn add_figures(
     text: &mut Lines,
     gate: &Gate,
     replica: &Replica,
+    starts: u64,
     verdicts: &Verdicts,
     facts: &Facts,
 )
-    ensures { Adds (figures_text gate.now (state_of replica.now) (length replica.now) verdicts.now facts.now) text.old
-        text.new }
+    ensures { Adds (figures_text gate.now (state_of replica.now) (length replica.now) starts verdicts.now facts.now)
+        text.old text.new }
 {
-    add_record(text, replica, verdicts);
+    add_record(text, replica, starts, verdicts);
     add_held(alloc, text, gate, verdicts.out());
     add_site(text, facts);
     add_peers(text, facts.peers.as_slice());
@@ -65,8 +75,8 @@ fn add_figures(
 }
 
 /// Adds the metrics of the record.
-fn add_record(text: &mut Lines, replica: &Replica, verdicts: &Verdicts)
-    ensures { Adds (record_text (length replica.now) (state_of replica.now) (length verdicts.now.ready)) text.old
+fn add_record(text: &mut Lines, replica: &Replica, starts: u64, verdicts: &Verdicts)
+    ensures { Adds (record_text (length replica.now) starts (state_of replica.now) (length verdicts.now.ready)) text.old
         text.new }
 {
     add_gauge(
@@ -74,6 +84,12 @@ fn add_record(text: &mut Lines, replica: &Replica, verdicts: &Verdicts)
         "reviewgate_operations",
         "Operations of the record.",
         replica.len() as u64,
+    );
+    add_gauge(
+        text,
+        "reviewgate_starts",
+        "Starts of sites that a pull into the record names.",
+        starts,
     );
     add_changes(text, replica.state());
     add_gauge(

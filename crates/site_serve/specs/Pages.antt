@@ -1,5 +1,5 @@
 -- What a page of a running site shows.
-use Rattle.std.specs.Prelude.{◌≡◌, ◌⊎◌, List, length}
+use Rattle.std.specs.Prelude.{◌≡◌, ◌⊎◌, List}
 use Rattle.gate_rules.specs.Rules.{GateRules}
 use Rattle.page_routes.specs.declared.page.Page.{Page}
 use Rattle.page_routes.specs.declared.page.Status.TheVariants.{Unavailable}
@@ -14,7 +14,7 @@ use Rattle.state_core.specs.State.{state_of}
 -- the page answers the route by a record, the verdicts on that record, and these facts of the site
 abbrev pub IsPageOf : GateRules → Facts → List Operation → Judged → Route → Page → Type 0
 IsPageOf gate facts journal judged route page =
-    IsPageAnswer gate (state_of journal) (length journal) judged facts route page
+    IsPageAnswer gate journal judged facts route page
 
 -- the page is of one moment: of what was published up to there, with the verdicts on that
 abbrev pub IsOfMoment : GateRules → Facts → List (List Operation) → Route → Page → Type 0

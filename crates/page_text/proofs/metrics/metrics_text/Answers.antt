@@ -8,9 +8,11 @@ use Rattle.page_text.proofs.metrics.metrics_text.Goals as goal
 pub returns : goal.returns
 returns c =
     let replica = c.args.replica.now in
-    let figures = metrics.figures_text c.args.gate.now (state_of replica) (length replica) c.args.verdicts.now
+    let starts = c.in_ok-starts.starts in
+    let figures = metrics.figures_text c.args.gate.now (state_of replica) (length replica) starts c.args.verdicts.now
     c.args.facts.now in
     let now = metrics.now_text c.args.facts.now in
-    adds_all c.new-text.result c.add_now.new.text (figures ++ now) c.in_ok-bytes.bytes.items c.new-text.ensures
+    let added = adds_all c.new-text.result c.add_now.new.text (figures ++ now) c.in_ok-bytes.bytes.items c.new-text.ensures
     (adds_then c.new-text.result c.add_figures.new.text c.add_now.new.text figures now c.add_figures.ensures
-    c.add_now.ensures) c.in_ok-bytes.ensures
+    c.add_now.ensures) c.in_ok-bytes.ensures in
+    (starts, c.in_ok-starts.ensures, added)
