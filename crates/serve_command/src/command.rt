@@ -10,6 +10,7 @@ use super::keys::judge_keys;
 use super::prepared::{Site, SiteStreams};
 use super::running::{run_with_journal, run_with_keeper};
 use super::save::SnapshotFile;
+use super::start::time_of;
 use super::tape::FileTape;
 use byte_ends::{Drain, Ends, Source};
 use command_line::ServeWords;
@@ -110,6 +111,7 @@ where
                 serving,
                 gate,
                 replica,
+                began: time_of(&rt),
             };
             run_named(rt, alloc, site, streams, keys)
         }
@@ -229,7 +231,8 @@ where
     }
 }
 
-/// Runs a site with the journal of this name, and saves what it has left.
+/// Runs a site with the journal of this name, and saves what it has left. It begins once the journal file is locked, and
+/// the clock is read then: who had that file before has ended, and listened only after the second of its own start.
 fn run_on_file<R, I, N, E, L>(
     rt: R,
     alloc: Global,
@@ -249,7 +252,11 @@ where
     L: KeyReader + Sync,
 {
     match tape_of(&rt, alloc, name, site.serving.save) {
-        Ok(tape) => ended_of(run_with_journal(rt, alloc, site, streams, keys, snapshot_file, tape)),
+        Ok(tape) => {
+            let mut site = site;
+            site.began = time_of(&rt);
+            ended_of(run_with_journal(rt, alloc, site, streams, keys, snapshot_file, tape))
+        }
         Err(ended) => Err(ended),
     }
 }

@@ -24,7 +24,7 @@ use std::random::RandomSource;
 use std::rt::Files;
 use std::sync::{Arc, Wait};
 use std::thread::Threads;
-use std::time::Clock;
+use std::time::{Clock, Duration};
 
 /// What a site is run with, once its inputs are read.
 #[derive(Drop)]
@@ -32,6 +32,9 @@ pub struct Site<'a> {
     pub serving: ServeWords<'a>,
     pub gate: Gate,
     pub replica: Replica,
+    /// The time since 1970 at which its journal file was locked, which no other process can run on from then on; without
+    /// a journal file, at which its inputs had been read. None where the clock can't be read.
+    pub began: Option<Duration>,
 }
 
 /// A site's standard input, the files that it reads, and its standard error.
@@ -118,7 +121,8 @@ where
         (λ begun. IsStartOf site.now.serving.site site.now.serving.start site.now.replica begun.0) }
 {
     let serving = &site.serving;
-    let Some(start) = start_of(rt, serving.start, &site.replica, serving.site) else {
+    let found = start_of(rt, serving.start, site.began, &site.replica, serving.site);
+    let Some(start) = found else {
         return Err(Ended::Site(ServeFault::StartUsed));
     };
     match listen(rt, alloc, serving) {

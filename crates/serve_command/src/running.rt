@@ -105,6 +105,7 @@ fn begin_on_tape<'a, R: Threads + Drop, T: Tape + Drop, E: Drain>(
         serving,
         gate,
         replica,
+        began,
     } = site;
     match begin(alloc, &SideBySide::new(rt), tape, replica, errors) {
         Ok((journal, replica)) => {
@@ -112,6 +113,7 @@ fn begin_on_tape<'a, R: Threads + Drop, T: Tape + Drop, E: Drain>(
                 serving,
                 gate,
                 replica,
+                began,
             };
             Ok((journal, site))
         }
@@ -236,6 +238,7 @@ fn setup_of<'a>(
         serving,
         gate,
         replica,
+        began: _,
     } = site;
     let ServeWords {
         peers,
