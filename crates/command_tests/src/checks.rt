@@ -92,8 +92,10 @@ reject /reject/a~1b~0/status status none
 reject /reject/a~1b~0/approval/0 any vote
 reject /reject/a~1b~0/approval/1 verified none
 reject /reject/a~1b~0/approval/2 verified 1 and workflow -1 or 1 by "a\nb"
+warning 8 RejectsNothing /reject/a~1b~0/approval/1
 warning 6 NoVoter /reject/a~1b~0/approval/2 "a\nb"
-end 6 1
+warning 8 RejectsNothing /reject/a~1b~0/approval/2
+end 6 3
 "#;
     assert_check(&rt, alloc, empty, 0, lines, "");
 }
@@ -394,6 +396,54 @@ fn what_is_rejected_may_let_none_in(rt: HostRuntime) {
     for (gate, lines) in REJECTING {
         assert_check(&rt, rt.alloc(), gate, 0, lines, "");
     }
+}
+
+/// Approvals that are rejected and accept no vote, and such as accept one.
+const REJECTED: &str = r#"{"bases":["https://r/"],"require":{"gerrit":{"approval":{"Verified":0}}},
+"reject":{"gerrit":{"approval":[{"Verified":-1,"Code-Review":-2},{"Verified":0},{"Verified":[]},
+{"username":"zuul","Verified":-1,"verified":-2},{"Verified":[0,0]},{"Verified":[0,-1]},{"username":"zuul"},{},
+{"username":"zuul","Verified":-128},{"username":"z z","Verified":-1}]}}}"#;
+
+#[test]
+fn what_rejects_nothing_is_said(rt: HostRuntime) {
+    let lines = r#"require /require/gerrit/approval/0 verified 0
+reject /reject/gerrit/approval/0 code-review -2 and verified -1
+reject /reject/gerrit/approval/1 verified 0
+reject /reject/gerrit/approval/2 verified none
+reject /reject/gerrit/approval/3 verified -1 and verified -2 by "zuul"
+reject /reject/gerrit/approval/4 verified 0 or 0
+reject /reject/gerrit/approval/5 verified 0 or -1
+reject /reject/gerrit/approval/6 any vote by "zuul"
+reject /reject/gerrit/approval/7 any vote
+reject /reject/gerrit/approval/8 verified -128 by "zuul"
+reject /reject/gerrit/approval/9 verified -1 by "z z"
+warning 4 NeverMet /require/gerrit/approval/0
+warning 8 RejectsNothing /reject/gerrit/approval/0
+warning 8 RejectsNothing /reject/gerrit/approval/1
+warning 8 RejectsNothing /reject/gerrit/approval/2
+warning 8 RejectsNothing /reject/gerrit/approval/3
+warning 8 RejectsNothing /reject/gerrit/approval/4
+warning 6 NoVoter /reject/gerrit/approval/9 "z z"
+end 11 7
+"#;
+    assert_check(&rt, rt.alloc(), REJECTED, 0, lines, "");
+}
+
+/// A gate with such an approval alone.
+const REJECTS_NOTHING: &str =
+    r#"{"bases":["https://r/"],"reject":{"gerrit":{"approval":{"Verified":-1,"Code-Review":-2}}}}"#;
+
+#[test]
+fn a_strict_check_refuses_what_rejects_nothing(rt: HostRuntime) {
+    let lines = r#"reject /reject/gerrit/approval/0 code-review -2 and verified -1
+warning 8 RejectsNothing /reject/gerrit/approval/0
+end 1 1
+"#;
+    let errors = "reviewgate: check 1 Warnings 1\n";
+    let words = ["check", "gate", "--strict"];
+    let alloc = rt.alloc();
+    let gate = REJECTS_NOTHING;
+    assert_prints(&rt, alloc, words.as_slice(), gate, "", 1, lines, errors);
 }
 
 #[test]

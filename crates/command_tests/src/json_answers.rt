@@ -106,9 +106,9 @@ end 1
 #[test]
 fn a_check_of_what_is_rejected_is_one_object(rt: HostRuntime) {
     let gate =
-        r#"{"bases":["https://r/"],"reject":{"gerrit":{"open":true,"status":["MERGED","ABANDONED"]}}}"#;
+        r#"{"bases":["https://r/"],"reject":{"gerrit":{"open":true,"status":["MERGED","ABANDONED"],"approval":{"Verified":0}}}}"#;
     let line =
-        r#"{"conditions":["reject /reject/gerrit/open open","reject /reject/gerrit/status status \"MERGED\" or \"ABANDONED\""],"warnings":[{"number":4,"name":"NeverMet","place":"/reject/gerrit/open"},{"number":4,"name":"NeverMet","place":"/reject/gerrit/status"}]}
+        r#"{"conditions":["reject /reject/gerrit/open open","reject /reject/gerrit/status status \"MERGED\" or \"ABANDONED\"","reject /reject/gerrit/approval/0 verified 0"],"warnings":[{"number":4,"name":"NeverMet","place":"/reject/gerrit/open"},{"number":4,"name":"NeverMet","place":"/reject/gerrit/status"},{"number":8,"name":"RejectsNothing","place":"/reject/gerrit/approval/0"}]}
 "#;
     let words = ["check", "gate", "--json"];
     assert_prints(&rt, rt.alloc(), words.as_slice(), gate, "", 0, line, "");

@@ -1,5 +1,5 @@
 -- Where the braces of a template are.
-use Rattle.std.proofs.Common.{◌≡◌, ◌∙◌, ◌<◌, ◌+◌, ◌++◌, ◌∷◌, [], ℕ, List, Option, None, Some, Bor, sym, ap, subst}
+use Rattle.std.proofs.Common.{◌≡◌, ◌∙◌, ◌++◌, ◌∷◌, [], ℕ, List, Option, None, Some, Bor, sym, ap, subst}
 use Rattle.std.proofs.Common.{lit<, append_assoc, codes, append-nil, All, MatchOption}
 use Rattle.std.proofs.Common.{inl}
 use Rattle.std.proofs.lemmas.List.Concat.{flat_map-append}
@@ -7,9 +7,13 @@ use Rattle.std.proofs.lemmas.List.Elements.{All-append, All-cons, All-nil, All-p
 use Rattle.std.proofs.lemmas.Str.Pattern.{IsSplitOnceResult, split_parts}
 use Rattle.enqueue_lines.specs.declared.fault.TemplateFault.{TemplateFault}
 use Rattle.enqueue_lines.specs.declared.template.Field.{Field}
-use Rattle.enqueue_lines.specs.Template.{IsPlainPart, IsRefusedTemplate, IsWrongBrace, Part, Reads, field, field_spelling}
-use Rattle.enqueue_lines.specs.Template.{name_of, spelling, spells, text, with_field, with_text}
+use Rattle.enqueue_lines.specs.declared.shell.ShellState.{ShellState}
+use Rattle.enqueue_lines.specs.declared.shell.ShellState.TheVariants.{Bare}
+use Rattle.enqueue_lines.specs.Shell.{after_bytes}
+use Rattle.enqueue_lines.specs.Template.{AreBareFrom, IsPlainPart, IsRefusedTemplate, IsWrongBrace, Part, Reads, field}
+use Rattle.enqueue_lines.specs.Template.{field_spelling, name_of, spelling, spells, text, with_field, with_text}
 use Rattle.enqueue_lines.specs.Texts.{LacksByte}
+use Rattle.enqueue_lines.proofs.Quotes.{after_append, bare_more}
 
 pub brace_parts : (rest : List ℕ) (cut : Option (Bor (List ℕ) × Bor (List ℕ))) → IsSplitOnceResult 123 rest cut
     → MatchOption cut (LacksByte 123 rest)
@@ -28,6 +32,16 @@ spells_text parts plain =
 plain_text : (parts : List Part) (plain : List ℕ) → All IsPlainPart parts → LacksByte 123 plain
     → All IsPlainPart (with_text parts plain)
 plain_text parts plain all lacks = All-push IsPlainPart parts (text plain) all lacks
+
+bare_text : (parts : List Part) (plain : List ℕ) → AreBareFrom Bare parts → AreBareFrom Bare (with_text parts plain)
+bare_text parts plain bare = bare_more Bare parts (text plain ∷ []) bare (tt, tt)
+
+-- how a shell reads what follows that text, where it reads the text from outside quotes on
+state_behind : (parts : List Part) (plain : List ℕ) → after_bytes Bare (spells parts) ≡ Bare
+    → after_bytes Bare (spells (with_text parts plain)) ≡ after_bytes Bare plain
+state_behind parts plain there =
+    ap (after_bytes Bare) (spells_text parts plain) ∙ after_append Bare (spells parts) plain
+    ∙ ap (λ s. after_bytes s plain) there
 
 -- a text, a field and what follows them are what is left of a template
 field_next : (rest plain after next : List ℕ) (named : Field) → rest ≡ plain ++ codes "{" ++ after
@@ -54,17 +68,19 @@ plain_field parts more plain named all lacks made =
 
 -- the text after the last field is the last piece
 pub reads_rest : (whole rest : List ℕ) (parts more : List Part) → whole ≡ spells parts ++ rest → All IsPlainPart parts
-    → LacksByte 123 rest → more ≡ with_text parts rest → Reads whole more
-reads_rest whole rest parts more is all lacks made = record {
+    → AreBareFrom Bare parts → LacksByte 123 rest → more ≡ with_text parts rest → Reads whole more
+reads_rest whole rest parts more is all bare lacks made = record {
   spelled = is ∙ sym (ap spells made ∙ spells_text parts rest);
   plain = subst (All IsPlainPart) (sym made) (plain_text parts rest all lacks);
+  bare = subst (AreBareFrom Bare) (sym made) (bare_text parts rest bare);
 }
 
 -- a text before a brace that isn't right is one more piece
 pub refused_at : (whole rest plain after : List ℕ) (parts : List Part) (fault : TemplateFault) → whole ≡ spells parts ++ rest
-    → rest ≡ plain ++ codes "{" ++ after → All IsPlainPart parts → LacksByte 123 plain → IsWrongBrace after fault
+    → rest ≡ plain ++ codes "{" ++ after → All IsPlainPart parts → AreBareFrom Bare parts
+    → after_bytes Bare (spells parts) ≡ Bare → LacksByte 123 plain → IsWrongBrace (after_bytes Bare plain) after fault
     → IsRefusedTemplate whole fault
-refused_at whole rest plain after parts fault is cut all lacks wrong =
+refused_at whole rest plain after parts fault is cut all bare there lacks wrong =
     inl (
       with_text parts plain,
       after,
@@ -72,6 +88,7 @@ refused_at whole rest plain after parts fault is cut all lacks wrong =
           ∙ sym (append_assoc (spells parts) plain (codes "{" ++ after))
           ∙ ap (λ t. t ++ (codes "{" ++ after)) (sym (spells_text parts plain))
           ∙ sym (append_assoc (spells (with_text parts plain)) (codes "{") after),
-      wrong,
+      subst (λ (s : ShellState). IsWrongBrace s after fault) (sym (state_behind parts plain there)) wrong,
       plain_text parts plain all lacks,
+      bare_text parts plain bare,
     )

@@ -1,5 +1,6 @@
 mod Members
 mod Words
+mod Quotes
 mod Once
 mod Numbers
 mod Begins

@@ -26,12 +26,12 @@ quotes_read (byte ∷ word) =
 
 -- ---- as it is
 
-both_true : (p q : Bool) → (p && q) ≡ true → (p ≡ true) × (q ≡ true)
+pub both_true : (p q : Bool) → (p && q) ≡ true → (p ≡ true) × (q ≡ true)
 both_true true q e = (refl, e)
 both_true false q e = absurd (false≢true e)
 
 -- a plain byte is none that isn't plain
-differs : (byte other : ℕ) (same : Bool) → (byte == other) ≡ same → is_bare_byte byte ≡ true
+pub differs : (byte other : ℕ) (same : Bool) → (byte == other) ≡ same → is_bare_byte byte ≡ true
     → is_bare_byte other ≡ false → same ≡ false
 differs byte other false is plain special = refl
 differs byte other true is plain special =

@@ -4,17 +4,20 @@ use Rattle.enqueue_lines.specs.declared.fault.EnqueueFault.{EnqueueFault}
 use Rattle.enqueue_lines.specs.declared.fault.EnqueueFault.TheVariants.{BadLine, BadEnd, NoEnd, ReadFault, NoMemory}
 use Rattle.enqueue_lines.specs.declared.fault.EnqueueFault.TheVariants.{WriteFault, BadQuery, BadHanded}
 use Rattle.enqueue_lines.specs.declared.fault.TemplateFault.{TemplateFault}
-use Rattle.enqueue_lines.specs.declared.fault.TemplateFault.TheVariants.{UnknownField, OpenBrace}
+use Rattle.enqueue_lines.specs.declared.fault.TemplateFault.TheVariants.{UnknownField, OpenBrace, QuotedField}
 use Rattle.enqueue_lines.specs.declared.fault.TemplateFault.TheVariants.{NoMemory as NoRoom}
+use Rattle.enqueue_lines.specs.Template.{name_of}
 
 abbrev pub template_number : TemplateFault → ℕ
 template_number (UnknownField name) = 7
 template_number OpenBrace = 8
+template_number (QuotedField field) = 11
 template_number NoRoom = 5
 
 abbrev pub template_words : TemplateFault → List ℕ
 template_words (UnknownField name) = codes "UnknownField " ++ name.now
 template_words OpenBrace = codes "OpenBrace"
+template_words (QuotedField field) = codes "QuotedField " ++ name_of field
 template_words NoRoom = codes "NoMemory"
 
 abbrev pub fault_number : EnqueueFault → ℕ

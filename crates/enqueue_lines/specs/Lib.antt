@@ -1,6 +1,7 @@
 pub mod Texts
 pub mod Fault
 pub mod Quoting
+pub mod Shell
 pub mod Template
 pub mod Lines
 pub mod Groups

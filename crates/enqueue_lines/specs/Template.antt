@@ -1,10 +1,14 @@
 -- The template of a line: text as it is, and the names of fields in braces, for which values are put in. The form is
 -- the project's own.
-use Rattle.std.specs.Prelude.{◌≡◌, ◌⊎◌, ℕ, List, [], ◌∷◌, ◌++◌, All, codes, decimal, flat_map, string_bytes}
+use Rattle.std.specs.Prelude.{◌≡◌, ◌≢◌, ◌⊎◌, ℕ, List, [], ◌∷◌, ◌++◌, All, codes, decimal, flat_map, string_bytes}
 use Rattle.enqueue_lines.specs.Quoting.{quoted}
+use Rattle.enqueue_lines.specs.Shell.{after_bytes}
 use Rattle.enqueue_lines.specs.Texts.{LacksByte}
 use Rattle.enqueue_lines.specs.declared.fault.TemplateFault.{TemplateFault}
-use Rattle.enqueue_lines.specs.declared.fault.TemplateFault.TheVariants.{UnknownField, OpenBrace, NoMemory}
+use Rattle.enqueue_lines.specs.declared.fault.TemplateFault.TheVariants.{UnknownField, OpenBrace, QuotedField}
+use Rattle.enqueue_lines.specs.declared.fault.TemplateFault.TheVariants.{NoMemory}
+use Rattle.enqueue_lines.specs.declared.shell.ShellState.{ShellState}
+use Rattle.enqueue_lines.specs.declared.shell.ShellState.TheVariants.{Bare}
 use Rattle.enqueue_lines.specs.declared.template.Field.{Field}
 use Rattle.enqueue_lines.specs.declared.template.Field.TheVariants.{Tenant, Pipeline, Project, Branch, Change, Set}
 use Rattle.enqueue_lines.specs.declared.template.Piece.{Piece}
@@ -45,10 +49,21 @@ abbrev pub IsPlainPart : Part → Type 0
 IsPlainPart (text plain) = LacksByte 123 plain
 IsPlainPart (field named) = Unit {0}
 
--- the pieces are a reading of the text: they spell it, and none of their texts has an open brace
+-- a shell that reads the first byte of the pieces so reads each of their fields outside quotes
+abbrev pub IsBarePart : ShellState → Part → Type 0
+IsBarePart state (text plain) = Unit {0}
+IsBarePart state (field named) = state ≡ Bare
+
+abbrev pub AreBareFrom : ShellState → List Part → Type 0
+AreBareFrom state [] = Unit {0}
+AreBareFrom state (part ∷ parts) = IsBarePart state part × AreBareFrom (after_bytes state (spelling part)) parts
+
+-- the pieces are a reading of the text: they spell it, none of their texts has an open brace, and none of their fields
+-- stands in quotes
 pub record Reads (whole : List ℕ) (parts : List Part) : Type 0 where
   pub spelled : whole ≡ spells parts
   pub plain : All IsPlainPart parts
+  pub bare : AreBareFrom Bare parts
 
 -- pieces with one more text, and with a field after that
 abbrev pub with_text : List Part → List ℕ → List Part
@@ -93,20 +108,28 @@ filled_part values (field named) = quoted (field_value values named)
 abbrev pub filled : List Part → Given → List ℕ
 filled parts values = flat_map (filled_part values) parts
 
+-- whatever values are put in before a field, a shell reads the field's own value from outside quotes on
+abbrev pub ValuesStandBare : List Part → Type 0
+ValuesStandBare parts = (values : Given) (before after : List Part) (named : Field) → parts ≡ before ++ field named ∷ after
+    → after_bytes Bare (filled before values) ≡ Bare
+
 -- ---- what is refused
 
--- what follows an open brace has no closing one; or there is one, and what is before the first is no field's name
-abbrev pub IsWrongBrace : List ℕ → TemplateFault → Type 0
-IsWrongBrace after OpenBrace = LacksByte 125 after
-IsWrongBrace after (UnknownField name) =
+-- what follows an open brace has no closing one; or there is one, and what is before the first is no field's name, or is
+-- one that a shell reads as quoted, by the state in which it reads the brace
+abbrev pub IsWrongBrace : ShellState → List ℕ → TemplateFault → Type 0
+IsWrongBrace state after OpenBrace = LacksByte 125 after
+IsWrongBrace state after (UnknownField name) =
     (next : List ℕ) × (after ≡ name.now ++ codes "}" ++ next) × LacksByte 125 name.now
     × ((named : Field) → ¬ (name.now ≡ name_of named))
-IsWrongBrace after NoMemory = ⊥
+IsWrongBrace state after (QuotedField named) =
+    (next : List ℕ) × (after ≡ name_of named ++ codes "}" ++ next) × (state ≢ Bare)
+IsWrongBrace state after NoMemory = ⊥
 
--- the text begins with pieces, none of whose texts has an open brace, and then has the first brace that is wrong; or
--- memory was refused
+-- the text begins with pieces, none of whose texts has an open brace and none of whose fields stands in quotes, and then
+-- has the first brace that is wrong; or memory was refused
 abbrev pub IsRefusedTemplate : List ℕ → TemplateFault → Type 0
 IsRefusedTemplate whole fault =
-    ((parts : List Part) × (after : List ℕ) × (whole ≡ spells parts ++ codes "{" ++ after) × IsWrongBrace after fault
-    × All IsPlainPart parts)
+    ((parts : List Part) × (after : List ℕ) × (whole ≡ spells parts ++ codes "{" ++ after)
+    × IsWrongBrace (after_bytes Bare (spells parts)) after fault × All IsPlainPart parts × AreBareFrom Bare parts)
     ⊎ (fault ≡ NoMemory)

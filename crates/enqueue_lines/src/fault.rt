@@ -3,6 +3,7 @@
 ghost use Rattle.std.specs.Prelude.{◌≡◌, ◌++◌, OnOk, string_bytes};
 ghost use Rattle.enqueue_lines.specs.Fault.{fault_number, enqueue_fault_words, template_number, template_words};
 
+use super::template::Field;
 use std::alloc::AllocError;
 
 /// Why a template isn't read.
@@ -12,6 +13,8 @@ pub enum TemplateFault<'a> {
     UnknownField(&'a str),
     /// 8: no brace closes one that is open.
     OpenBrace,
+    /// 11: this field stands within quotes, or behind a backslash.
+    QuotedField(Field),
     /// 5: memory was refused.
     NoMemory,
 }
@@ -24,17 +27,19 @@ impl<'a> TemplateFault<'a> {
         match self {
             TemplateFault::UnknownField(_) => 7,
             TemplateFault::OpenBrace => 8,
+            TemplateFault::QuotedField(_) => 11,
             TemplateFault::NoMemory => 5,
         }
     }
 
-    /// Adds the words of the fault: its name, and what is between the braces.
+    /// Adds the words of the fault: its name, and what is between the braces, where they are closed.
     pub fn write_words(&self, words: &mut String) -> Result<(), AllocError>
         ensures { OnOk result (string_bytes words.new ≡ string_bytes words.old ++ template_words self.now) }
     {
         match self {
             TemplateFault::UnknownField(name) => write!(words, "UnknownField {name}"),
             TemplateFault::OpenBrace => words.push_str("OpenBrace"),
+            TemplateFault::QuotedField(field) => write!(words, "QuotedField {}", field.name()),
             TemplateFault::NoMemory => words.push_str("NoMemory"),
         }
     }

@@ -40,6 +40,7 @@ mod pipeline;
 mod places;
 mod quoting;
 mod run;
+mod shell;
 mod site_line;
 mod template;
 
@@ -52,4 +53,6 @@ pub use places::{Places, read_places};
 pub use quoting::{add_quoted, quoted_words_are_read_again};
 pub use run::hand_over;
 pub use site_line::{SiteLine, read_item, read_line};
-pub use template::{Field, Piece, Template, Values, templates_have_one_reading};
+pub use template::{
+    Field, Piece, Template, Values, templates_have_one_reading, values_are_read_outside_quotes,
+};

@@ -1,14 +1,19 @@
 //! The template of a line, for whose fields values are put in.
 
-ghost use Rattle.std.specs.Prelude.{◌≡◌, ◌++◌, ℕ, List, IfErr, IfOk, IsUtf8, MatchOption, OnOk, codes, decimal, map};
+ghost use Rattle.std.specs.Prelude.{◌≡◌, ◌++◌, ℕ, List, IfErr, IfOk, IsUtf8, MatchOption, OnOk, codes};
+ghost use Rattle.std.specs.Prelude.{decimal, map};
 ghost use Rattle.enqueue_lines.specs.Quoting.{quoted};
-ghost use Rattle.enqueue_lines.specs.Template.{Given, IsRefusedTemplate, IsWrongBrace, Part, Reads, field_value, filled};
-ghost use Rattle.enqueue_lines.specs.Template.{filled_part, name_of, template_part, values_given, with_field, with_text};
+ghost use Rattle.enqueue_lines.specs.Shell.{after_bytes};
+ghost use Rattle.enqueue_lines.specs.Template.{Given, IsRefusedTemplate, IsWrongBrace, Part, Reads, ValuesStandBare};
+ghost use Rattle.enqueue_lines.specs.Template.{field_value, filled, filled_part, name_of, template_part, values_given};
+ghost use Rattle.enqueue_lines.specs.Template.{with_field, with_text};
 ghost use Rattle.enqueue_lines.specs.Texts.{LacksByte};
+ghost use Rattle.enqueue_lines.specs.declared.shell.ShellState.{ShellState};
 ghost use Rattle.enqueue_lines.specs.declared.template.Field.{Field};
 
 use super::fault::TemplateFault;
 use super::quoting::add_quoted;
+use super::shell::ShellState;
 use std::alloc::{AllocError, Global};
 use std::marker::Model;
 
@@ -43,6 +48,20 @@ impl Field {
             "change" => Some(Field::Change),
             "set" => Some(Field::Set),
             _ => None,
+        }
+    }
+
+    /// The field's name.
+    pub fn name(self) -> &'static str
+        ensures { result.now ≡ name_of self }
+    {
+        match self {
+            Field::Tenant => "tenant",
+            Field::Pipeline => "pipeline",
+            Field::Project => "project",
+            Field::Branch => "branch",
+            Field::Change => "change",
+            Field::Set => "set",
         }
     }
 }
@@ -85,7 +104,8 @@ impl Model for Template {
 impl Template {
     /// Reads a template: each name in braces is a field, and all else is text. Refusals: 7 `UnknownField`, the first
     /// braces that aren't right have no field's name between them; 8 `OpenBrace`, no brace closes the first one that
-    /// isn't right; 5 `NoMemory`. It costs O(n) for n bytes.
+    /// isn't right; 11 `QuotedField`, the first braces that aren't right stand where a shell reads them as quoted, so
+    /// that a value's own quotes would quote nothing; 5 `NoMemory`. It costs O(n) for n bytes.
     pub fn read(alloc: Global, text: &str) -> Result<Template, TemplateFault<'_>>
         ensures read { IfOk result (Reads text.entry.now) }
         ensures refused { IfErr result (IsRefusedTemplate text.entry.now) }
@@ -93,7 +113,7 @@ impl Template {
         let mut pieces = Vec::new(alloc);
         let mut rest = text;
         while let Some((plain, after)) = next_brace(rest) {
-            let (field, next) = match closed(after) {
+            let (field, next) = match field_behind(plain, after) {
                 Ok(found) => found,
                 Err(fault) => return Err(fault),
             };
@@ -126,12 +146,30 @@ fn next_brace(rest: &str) -> Option<(&str, &str)>
     rest.split_once('{')
 }
 
+/// The field that begins a text, which follows an open brace, and what comes after the brace that closes it; where the
+/// plain text before that brace, which a shell begins to read outside quotes, doesn't end within them.
+fn field_behind<'a>(plain: &str, after: &'a str) -> Result<(Field, &'a str), TemplateFault<'a>>
+    ensures text { IfOk result (λ found. IsUtf8 found.1.now) }
+    ensures closed { IfOk result (λ found. after.entry.now ≡ name_of found.0 ++ codes "}" ++ found.1.now) }
+    ensures bare { IfOk result (λ found. after_bytes ShellState.Bare plain.now ≡ ShellState.Bare) }
+    ensures refused { IfErr result (IsWrongBrace (after_bytes ShellState.Bare plain.now) after.entry.now) }
+{
+    let (field, next) = match closed(after) {
+        Ok(found) => found,
+        Err(fault) => return Err(fault),
+    };
+    match ShellState::Bare.after_bytes(plain.as_bytes()) {
+        ShellState::Bare => Ok((field, next)),
+        _ => Err(TemplateFault::QuotedField(field)),
+    }
+}
+
 /// The field that begins a text, which follows an open brace, and what comes after the brace that closes it.
 fn closed(after: &str) -> Result<(Field, &str), TemplateFault<'_>>
     ensures text { IfOk result (λ found. IsUtf8 found.1.now) }
     ensures closed { IfOk result
         (λ found. after.entry.now ≡ name_of found.0 ++ codes "}" ++ found.1.now) }
-    ensures refused { IfErr result (IsWrongBrace after.entry.now) }
+    ensures refused { IfErr result (λ fault. (state : ShellState) → IsWrongBrace state after.entry.now fault) }
 {
     let Some((name, next)) = after.split_once('}') else {
         return Err(TemplateFault::OpenBrace);
@@ -230,4 +268,10 @@ fn add_number(alloc: Global, text: &mut Vec<u8>, number: u32) -> Result<(), Allo
 pub fn templates_have_one_reading()
     ensures { (whole : List ℕ) → (parts others : List Part) → Reads whole parts → Reads whole others
         → (values : Given) → filled parts values ≡ filled others values }
+{}
+
+/// A law: whatever values are put into a template, none opens or closes quotes: a shell reads each of them from outside
+/// quotes on.
+pub fn values_are_read_outside_quotes()
+    ensures { (whole : List ℕ) (parts : List Part) → Reads whole parts → ValuesStandBare parts }
 {}

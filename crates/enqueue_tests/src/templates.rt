@@ -2,6 +2,7 @@
 
 use enqueue_lines::{
     Field, Template, TemplateFault, Values, add_quoted, quoted_words_are_read_again,
+    values_are_read_outside_quotes,
 };
 use std::alloc::Global;
 use std::test::Fail;
@@ -58,6 +59,11 @@ const TEMPLATES: &[(&str, &str)] = &[
         "{tenant}{pipeline} {project}/{branch}:{change},{set}.",
         "maingate 'a site'/v1.0:4294967295,2.",
     ),
+    ("'a' \"b\" {project}", "'a' \"b\" 'a site'"),
+    (r#""it's"{project}'"'{set}"#, r#""it's"'a site''"'2"#),
+    (r"\'{set}\\{change}", r"\'2\\4294967295"),
+    (r#"'\'{set}"\"\\"{project}"#, r#"'\'2"\"\\"'a site'"#),
+    ("{set} it's", "2 it's"),
 ];
 
 #[test]
@@ -89,5 +95,33 @@ fn wrong_braces_are_refused(rt: HostRuntime) -> Result<(), Fail> {
     assert_eq!(rt; open.as_str(), "8 OpenBrace");
     assert_eq!(rt; TemplateFault::NoMemory.number(), 5);
     assert_eq!(rt; Field::named("branch"), Some(Field::Branch));
+    Ok(())
+}
+
+/// Templates with a field that a shell reads as quoted, and how each is refused.
+const QUOTED: &[(&str, &str)] = &[
+    (r#"echo "refs/heads/{branch}""#, "11 QuotedField branch"),
+    ("echo 'refs/heads/{branch}'", "11 QuotedField branch"),
+    (r"echo \{branch}", "11 QuotedField branch"),
+    (r#"{tenant} "{pipeline}" {x}"#, "11 QuotedField pipeline"),
+    (r#"{tenant} "{x}" '{set}'"#, "7 UnknownField x"),
+    (r#"{tenant} "{project} {"#, "11 QuotedField project"),
+    (r#"{tenant} "{project"#, "8 OpenBrace"),
+    (r"'{tenant}", "11 QuotedField tenant"),
+    (r"'\'{change}'{set}", "11 QuotedField set"),
+    (r#""\"{change}"#, "11 QuotedField change"),
+    (r#""\\"{change}\\\{set}"#, "11 QuotedField set"),
+    (r#""'"{change}'"{set}"#, "11 QuotedField set"),
+    (r"\\\'{change}'{set}", "11 QuotedField set"),
+];
+
+#[test]
+fn quoted_fields_are_refused(rt: HostRuntime) -> Result<(), Fail> {
+    values_are_read_outside_quotes();
+    for (template, wanted) in QUOTED {
+        let words = refused(rt.alloc(), template)?;
+        assert_eq!(rt; words.as_str(), *wanted);
+    }
+    assert_eq!(rt; Field::Pipeline.name(), "pipeline");
     Ok(())
 }

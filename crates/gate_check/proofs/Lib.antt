@@ -7,3 +7,4 @@ pub mod Missed
 pub mod Nearby
 pub mod Sought
 pub mod Voters
+pub mod Taken

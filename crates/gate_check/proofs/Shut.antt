@@ -54,7 +54,7 @@ module _ {X : Type 0} (test : X → Bool) where
   some_at (y ∷ xs) (suc k) x at is =
       elim (test y) as (λ b. (if b then true else some test xs) ≡ true) [ true ↦ refl | false ↦ some_at xs k x at is ]
 
-  each_at : (xs : List X) (k : ℕ) (x : X) → each test xs ≡ true → slice_get xs k ≡ Some x → test x ≡ true
+  pub each_at : (xs : List X) (k : ℕ) (x : X) → each test xs ≡ true → slice_get xs k ≡ Some x → test x ≡ true
   each_at [] k x all at = cc
   each_at (y ∷ xs) zero x all at =
       elim (test y) as (λ b. test y ≡ b → (if b then each test xs else false) ≡ true → test x ≡ true) [
@@ -239,7 +239,7 @@ given_by vote votes k approval true none at others =
 given_by vote votes k approval false real at others =
     given_at vote votes k approval real (sym (ap (λ t. slice_get (given_if vote votes t) k) real) ∙ at) others
 
-is_given : (votes : List GivenVote) (k : ℕ) (approval : GivenApproval) → slice_get (given votes) k ≡ Some approval
+pub is_given : (votes : List GivenVote) (k : ℕ) (approval : GivenApproval) → slice_get (given votes) k ≡ Some approval
     → is_no_vote approval.value ≡ false
 is_given [] k approval at = cc
 is_given (vote ∷ votes) k approval at =

@@ -1,6 +1,7 @@
--- Which conditions of a gate no item can meet beside the gate's others.
+-- Which conditions of a gate no item can meet beside the gate's others, and which approvals reject nothing.
 use Rattle.std.specs.Prelude.{◌≡◌, ℕ, ℤ, pos, List, [], ◌∷◌, Bool, true, false, not, ◌&&◌, ◌||◌, Option, None, Some, is_some}
-use Rattle.std.specs.Prelude.{unwrap_or}
+use Rattle.std.specs.Prelude.{All, FitsSigned, unwrap_or}
+use Rattle.std.specs.Int.{w8}
 use Rattle.std.specs.Ordering.{int_eq}
 use Rattle.change_core.specs.Change.{Change}
 use Rattle.change_core.specs.Status.{status_name}
@@ -15,6 +16,8 @@ use Rattle.gate_rules.specs.declared.condition.Clause.TheVariants.{OpenState, St
 use Rattle.gate_rules.specs.declared.condition.Condition.{Condition}
 use Rattle.gate_rules.specs.declared.condition.Side.{Side}
 use Rattle.gate_rules.specs.declared.condition.Side.TheVariants.{Require, Reject}
+use Rattle.review_ops.specs.Deed.{vote}
+use Rattle.review_ops.specs.Good.{IsGood, IsKeptLabel}
 
 -- ---- the status
 
@@ -109,6 +112,19 @@ abbrev pub is_never_met : GateRules → Side → PatternRule → Bool
 is_never_met gate Require pattern = rejects_each gate.reject.approvals pattern pattern.labels
 is_never_met gate Reject pattern = false
 
+-- ---- an approval that rejects nothing
+
+-- a pattern with these labels takes no vote: it has two of them, or one that has no value but 0
+abbrev pub takes_no_vote : List LabelRule → Bool
+takes_no_vote [] = false
+takes_no_vote (rule ∷ []) = each is_no_vote rule.values
+takes_no_vote (rule ∷ other ∷ rules) = true
+
+-- one that is rejected
+abbrev pub rejects_nothing : Side → PatternRule → Bool
+rejects_nothing Require pattern = false
+rejects_nothing Reject pattern = takes_no_vote pattern.labels
+
 -- ---- what the tests mean
 
 -- an item of any change breaks some condition of the gate
@@ -120,3 +136,21 @@ LetsNothingIn gate = (change : Change) (current set : ℕ)
 abbrev pub IsRejected : List PatternRule → PatternRule → Type 0
 IsRejected rejected pattern = (vote : GivenApproval) → is_no_vote vote.value ≡ false → matches pattern vote ≡ true
     → some (λ other. matches other vote) rejected ≡ true
+
+-- no item of any change breaks the condition
+abbrev pub IsNeverBroken : GateRules → Condition → Type 0
+IsNeverBroken gate condition = (change : Change) (current set : ℕ)
+    → ¬ IsBroken gate (standing_of change current set) condition
+
+-- a label as a record keeps it, and values that votes may have, as a gate file has them
+pub record IsWritable (rule : LabelRule) : Type 0 where
+  pub label : IsKeptLabel rule.label
+  pub values : All (FitsSigned w8) rule.values
+
+-- a record may hold a vote of the voter, which is not 0 and which the pattern takes
+pub record TakesVoteOf (pattern : PatternRule) (voter : List ℕ) : Type 0 where
+  pub label : List ℕ
+  pub value : ℤ
+  pub held : IsGood (vote 1 1 label voter value)
+  pub real : is_no_vote value ≡ false
+  pub taken : matches pattern (record { label = label; voter = voter; value = value }) ≡ true

@@ -11,12 +11,13 @@ use Rattle.gate_rules.specs.declared.condition.Side.{Side}
 use Rattle.gate_rules.specs.declared.condition.Side.TheVariants.{Require, Reject}
 use Rattle.gate_check.specs.Asking.{approval_pointer, by_place, pointer_of}
 use Rattle.gate_check.specs.Meeting.{is_current_never_met, is_never_met, is_open_never_met, is_status_never_met}
+use Rattle.gate_check.specs.Meeting.{rejects_nothing}
 use Rattle.gate_check.specs.Evidence.{Evidence, names_shown_by}
 use Rattle.gate_check.specs.Names.{KnownNames, has_known}
 use Rattle.gate_check.specs.Nearest.{nearest}
 use Rattle.gate_check.specs.declared.warning.Warning.{Warning}
 use Rattle.gate_check.specs.declared.warning.Warning.TheVariants.{IgnoredFooter, NeverMet, NoVoter, Pattern}
-use Rattle.gate_check.specs.declared.warning.Warning.TheVariants.{UnknownLabel, UnknownVoter, UnusedBase}
+use Rattle.gate_check.specs.declared.warning.Warning.TheVariants.{RejectsNothing, UnknownLabel, UnknownVoter, UnusedBase}
 
 abbrev pub number_of : Warning → ℕ
 number_of Pattern = 1
@@ -26,6 +27,7 @@ number_of NeverMet = 4
 number_of UnusedBase = 5
 number_of NoVoter = 6
 number_of IgnoredFooter = 7
+number_of RejectsNothing = 8
 
 abbrev pub name_of : Warning → List ℕ
 name_of Pattern = codes "Pattern"
@@ -35,6 +37,7 @@ name_of NeverMet = codes "NeverMet"
 name_of UnusedBase = codes "UnusedBase"
 name_of NoVoter = codes "NoVoter"
 name_of IgnoredFooter = codes "IgnoredFooter"
+name_of RejectsNothing = codes "RejectsNothing"
 
 -- a warning: its kind, a place of the gate file, what it is about, where it is about something, and the nearest name
 -- that there is, where one is near enough
@@ -141,20 +144,32 @@ abbrev pub footer_warnings : Option Evidence → List Found
 footer_warnings None = []
 footer_warnings (Some evidence) = map footer_warning evidence.ignored
 
+-- ---- 8 RejectsNothing: an approval that is rejected accepts no vote
+
+abbrev pub nothing_rejected : Bool → List ℕ → List Found
+nothing_rejected is_so place = warned is_so (of_place RejectsNothing place)
+
 -- ---- the warnings of a gate
 
 -- of a username, whatever a record has
 abbrev pub username_warnings : List ℕ → Option (List ℕ) → List Found
 username_warnings place username = pattern_warnings place username ++ nobody_warnings place username
 
+-- of the votes that an approval at a place accepts: one that is required is never met, one that is rejected rejects
+-- nothing
+abbrev pub vote_warnings : GateRules → Side → List ℕ → PatternRule → List Found
+vote_warnings gate side place pattern =
+    never_met (is_never_met gate side pattern) place ++ nothing_rejected (rejects_nothing side pattern) place
+
 -- of an approval at a place
-abbrev pub warnings_at : List ℕ → Option KnownNames → Bool → PatternRule → List Found
-warnings_at place names is_so pattern =
-    username_warnings place pattern.username ++ unknown_warnings place names pattern ++ never_met is_so place
+abbrev pub warnings_at : GateRules → Option KnownNames → Side → List ℕ → PatternRule → List Found
+warnings_at gate names side place pattern =
+    username_warnings place pattern.username ++ unknown_warnings place names pattern
+    ++ vote_warnings gate side place pattern
 
 abbrev pub approval_warnings : GateRules → Option KnownNames → Side → ℕ → PatternRule → List Found
 approval_warnings gate names side number pattern =
-    warnings_at (pointer_of gate side (approval_pointer number)) names (is_never_met gate side pattern) pattern
+    warnings_at gate names side (pointer_of gate side (approval_pointer number)) pattern
 
 -- of what a side asks under a key
 abbrev pub key_warnings : GateRules → Side → List ℕ → Bool → List Found

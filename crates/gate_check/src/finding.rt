@@ -7,14 +7,16 @@ ghost use Rattle.gate_check.specs.Evidence.{names_shown_by};
 ghost use Rattle.gate_check.specs.Shown.{evidence_shown, names_shown};
 ghost use Rattle.gate_check.specs.Warnings.{approval_warnings, base_place, base_warning, base_warnings};
 ghost use Rattle.gate_check.specs.Warnings.{can_vote, condition_warnings, first_warnings, footer_warning};
-ghost use Rattle.gate_check.specs.Warnings.{footer_warnings, is_sign, key_warnings, label_warning, never_met};
-ghost use Rattle.gate_check.specs.Warnings.{nobody_warnings, pattern_warnings, side_warnings, unknown_name};
-ghost use Rattle.gate_check.specs.Warnings.{unknown_warnings, username_warnings, voter_warnings, warnings_at};
-ghost use Rattle.gate_check.specs.Warnings.{warnings_of};
+ghost use Rattle.gate_check.specs.Warnings.{footer_warnings, is_sign, key_warnings, label_warning, nobody_warnings};
+ghost use Rattle.gate_check.specs.Warnings.{of_place, pattern_warnings, side_warnings, unknown_name};
+ghost use Rattle.gate_check.specs.Warnings.{unknown_warnings, username_warnings, vote_warnings, voter_warnings};
+ghost use Rattle.gate_check.specs.Warnings.{warned, warnings_at, warnings_of};
 
 use super::evidence::Evidence;
 use super::found::Finding;
-use super::meeting::{is_current_never_met, is_never_met, is_open_never_met, is_status_never_met};
+use super::meeting::{
+    is_current_never_met, is_never_met, is_open_never_met, is_status_never_met, rejects_nothing,
+};
 use super::names::{Names, has};
 use super::nearest::nearest;
 use super::place::{approval_key, place_of};
@@ -114,20 +116,21 @@ fn add_key(
     ensures { OnOk result (found.new.items ≡ found.old.items ++ key_warnings gate.now side key.now is_so) }
 {
     let place = place_of(alloc, gate, side, key)?;
-    add_never_met(alloc, is_so, place.as_str(), found)
+    add_if(alloc, is_so, Warning::NeverMet, place.as_str(), found)
 }
 
-/// Adds that what is asked at a place is never met, if it is so.
-fn add_never_met(
+/// Adds a warning of a place alone, if it is so.
+fn add_if(
     alloc: Global,
     is_so: bool,
+    warning: Warning,
     place: &str,
     found: &mut Vec<Finding>,
 ) -> Result<(), NoMemory>
-    ensures { OnOk result (found.new.items ≡ found.old.items ++ never_met is_so place.now) }
+    ensures { OnOk result (found.new.items ≡ found.old.items ++ warned is_so (of_place warning place.now)) }
 {
     if is_so {
-        found.push(Finding::new(alloc, Warning::NeverMet, place, None, None)?)?;
+        found.push(Finding::new(alloc, warning, place, None, None)?)?;
     }
     Ok(())
 }
@@ -166,25 +169,49 @@ fn add_approval(
 {
     let key = approval_key(alloc, number)?;
     let place = place_of(alloc, gate, side, key.as_str())?;
-    let is_so = is_never_met(gate, side, pattern);
-    add_at(alloc, place.as_str(), names, is_so, pattern, found)
+    add_at(alloc, gate, names, side, place.as_str(), pattern, found)
 }
 
 /// Adds those of an approval at a place.
 fn add_at(
     alloc: Global,
-    place: &str,
+    gate: &Gate,
     names: Option<&Names>,
-    is_never_met: bool,
+    side: Side,
+    place: &str,
     pattern: &Pattern,
     found: &mut Vec<Finding>,
 ) -> Result<(), NoMemory>
     ensures { OnOk result (found.new.items ≡ found.old.items
-        ++ warnings_at place.now (option_map (λ known. names_shown known.now) names.entry) is_never_met pattern.now) }
+        ++ warnings_at gate.now (option_map (λ known. names_shown known.now) names.entry) side place.now pattern.now) }
 {
     add_username(alloc, place, pattern.username(), found)?;
     add_unknown(alloc, place, names, pattern, found)?;
-    add_never_met(alloc, is_never_met, place, found)
+    add_accepted(alloc, gate, side, place, pattern, found)
+}
+
+/// Adds those of the votes that an approval at a place accepts.
+fn add_accepted(
+    alloc: Global,
+    gate: &Gate,
+    side: Side,
+    place: &str,
+    pattern: &Pattern,
+    found: &mut Vec<Finding>,
+) -> Result<(), NoMemory>
+    ensures { OnOk result (found.new.items
+        ≡ found.old.items ++ vote_warnings gate.now side place.now pattern.now) }
+{
+    let is_never_met = is_never_met(gate, side, pattern);
+    add_if(alloc, is_never_met, Warning::NeverMet, place, found)?;
+    let rejects_nothing = rejects_nothing(side, pattern);
+    add_if(
+        alloc,
+        rejects_nothing,
+        Warning::RejectsNothing,
+        place,
+        found,
+    )
 }
 
 /// Adds those of a username, whatever a record has.

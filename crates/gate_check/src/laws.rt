@@ -1,13 +1,16 @@
 //! What the tests of warnings mean.
 
-ghost use Rattle.std.specs.Prelude.{◌≡◌, ◌↔◌, ◌||◌, ℕ, List, Some, slice_get, true};
+ghost use Rattle.std.specs.Prelude.{◌≡◌, ◌↔◌, ◌||◌, All, ℕ, List, Some, false, slice_get, suc, true};
+ghost use Rattle.gate_rules.specs.Own.{names};
 ghost use Rattle.gate_rules.specs.Rules.{GateRules, PatternRule};
+ghost use Rattle.gate_rules.specs.declared.condition.Clause.TheVariants.{Approval};
 ghost use Rattle.gate_rules.specs.declared.condition.Side.{Side};
-ghost use Rattle.gate_rules.specs.declared.condition.Side.TheVariants.{Require};
-ghost use Rattle.gate_check.specs.Meeting.{IsRejected, LetsNothingIn, is_current_never_met, is_never_met, lets_none_in};
+ghost use Rattle.gate_rules.specs.declared.condition.Side.TheVariants.{Reject, Require};
+ghost use Rattle.gate_check.specs.Meeting.{IsNeverBroken, IsRejected, IsWritable, LetsNothingIn, TakesVoteOf};
+ghost use Rattle.gate_check.specs.Meeting.{is_current_never_met, is_never_met, is_open_never_met, is_status_never_met};
+ghost use Rattle.gate_check.specs.Meeting.{lets_none_in, rejects_nothing};
 ghost use Rattle.gate_check.specs.Names.{AreTheSameTexts};
 ghost use Rattle.gate_check.specs.Nearest.{FindsNearest};
-ghost use Rattle.gate_check.specs.Meeting.{is_open_never_met, is_status_never_met};
 ghost use Rattle.gate_check.specs.Warnings.{can_vote};
 ghost use Rattle.review_ops.specs.Good.{IsVoter};
 
@@ -25,6 +28,18 @@ pub fn what_is_never_met_lets_nothing_in()
         → LetsNothingIn gate }
     ensures exact { (gate : GateRules) (pattern : PatternRule)
         → (is_never_met gate Require pattern ≡ true) ↔ IsRejected gate.reject.approvals pattern }
+{}
+
+/// Where an approval that is rejected rejects nothing, no item of any change breaks that condition. Any other one, if its
+/// labels and values are such as those of a record, as in a gate file, takes a vote that a record may hold, which isn't
+/// 0, by each voter whom it names.
+pub fn what_rejects_nothing_is_never_broken()
+    ensures broken { (gate : GateRules) (place : ℕ) (pattern : PatternRule)
+        → slice_get gate.reject.approvals place ≡ Some pattern → rejects_nothing Reject pattern ≡ true
+        → IsNeverBroken gate (record { side = Reject; clause = Approval (suc place) }) }
+    ensures taken { (pattern : PatternRule) (voter : List ℕ) → rejects_nothing Reject pattern ≡ false
+        → All IsWritable pattern.labels → IsVoter voter → names pattern.username voter ≡ true
+        → TakesVoteOf pattern voter }
 {}
 
 /// Just the names that a vote's voter may have are names that somebody can have.

@@ -1,4 +1,4 @@
-//! Which conditions of a gate no item can meet beside the gate's others.
+//! Which conditions of a gate no item can meet beside the gate's others, and which approvals reject nothing.
 
 ghost use Rattle.std.specs.Prelude.{◌≡◌, [], map, string_bytes, unwrap_or};
 ghost use Rattle.std.specs.Str.{bytes_eq};
@@ -7,8 +7,8 @@ ghost use Rattle.gate_rules.specs.Reading.{each};
 ghost use Rattle.gate_rules.specs.declared.condition.Clause.TheVariants.{OpenState, StatusIn};
 ghost use Rattle.gate_check.specs.Meeting.{asks_status, comes_out, is_as_wide, is_current_never_met, is_never_met};
 ghost use Rattle.gate_check.specs.Meeting.{is_open_never_met, is_status_never_met, lets_in, lets_none_in};
-ghost use Rattle.gate_check.specs.Meeting.{rejects_any_label, rejects_each, rejects_votes, same_answer, shuts_out};
-ghost use Rattle.gate_check.specs.Meeting.{standing_with};
+ghost use Rattle.gate_check.specs.Meeting.{is_no_vote, rejects_any_label, rejects_each, rejects_nothing};
+ghost use Rattle.gate_check.specs.Meeting.{rejects_votes, same_answer, shuts_out, standing_with, takes_no_vote};
 
 use change_core::{Approval, Status};
 use gate_rules::{Clauses, Gate, LabelValues, Pattern, Side};
@@ -206,4 +206,36 @@ fn takes_voter(other: &Pattern, pattern: &Pattern) -> bool
         Some(username) => username == pattern.username().unwrap_or(""),
         None => true,
     }
+}
+
+/// Whether a pattern of a side is rejected and takes no vote, so that it rejects nothing.
+pub fn rejects_nothing(side: Side, pattern: &Pattern) -> bool
+    ensures { result ≡ rejects_nothing side pattern.now }
+{
+    match side {
+        Side::Require => false,
+        Side::Reject => takes_no_vote(pattern.labels()),
+    }
+}
+
+/// Whether a pattern with these labels takes no vote: it has two of them, or one that has no value but 0.
+fn takes_no_vote(labels: &[LabelValues]) -> bool
+    ensures { result ≡ takes_no_vote labels.now }
+{
+    if labels.is_empty() {
+        return false;
+    }
+    labels.len() > 1 || has_no_vote(labels[0].values())
+}
+
+/// Whether there is no value but 0, which is no vote.
+fn has_no_vote(values: &[i8]) -> bool
+    ensures { result ≡ each is_no_vote values.now }
+{
+    for value in values {
+        if *value != 0 {
+            return false;
+        }
+    }
+    true
 }

@@ -10,6 +10,7 @@ use super::finding::findings_of;
 use super::found::Finding;
 use super::laws::{
     the_nearest_name_is_found, voters_are_those_who_can_vote, what_is_never_met_lets_nothing_in,
+    what_rejects_nothing_is_never_broken,
 };
 use gate_rules::Gate;
 use json::Writer;
@@ -36,6 +37,7 @@ pub fn check_line(
         check.line.items check.warnings) }
 {
     what_is_never_met_lets_nothing_in();
+    what_rejects_nothing_is_never_broken();
     the_nearest_name_is_found();
     voters_are_those_who_can_vote();
     let evidence = evidence_in(alloc, gate, state)?;

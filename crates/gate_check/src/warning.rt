@@ -20,6 +20,8 @@ pub enum Warning {
     NoVoter,
     /// A footer of the record begins with a base and yet names no change.
     IgnoredFooter,
+    /// An approval that is rejected accepts no vote.
+    RejectsNothing,
 }
 
 impl Warning {
@@ -35,6 +37,7 @@ impl Warning {
             Warning::UnusedBase => 5,
             Warning::NoVoter => 6,
             Warning::IgnoredFooter => 7,
+            Warning::RejectsNothing => 8,
         }
     }
 
@@ -50,6 +53,7 @@ impl Warning {
             Warning::UnusedBase => "UnusedBase",
             Warning::NoVoter => "NoVoter",
             Warning::IgnoredFooter => "IgnoredFooter",
+            Warning::RejectsNothing => "RejectsNothing",
         }
     }
 }

@@ -1,0 +1,78 @@
+//! How a shell reads the bytes of a template.
+
+ghost use Rattle.std.specs.Prelude.{◌≡◌};
+ghost use Rattle.enqueue_lines.specs.Shell.{after_byte, after_bytes};
+
+/// How a POSIX shell reads the next byte of a text.
+#[derive(Clone, Copy, Debug, PartialEq, Eq)]
+pub enum ShellState {
+    /// Outside quotes.
+    Bare,
+    /// Behind a backslash outside quotes.
+    AfterBackslash,
+    /// Within single quotes.
+    Single,
+    /// Within double quotes.
+    Double,
+    /// Within double quotes, behind a backslash.
+    DoubleAfterBackslash,
+}
+
+impl ShellState {
+    /// How it reads the byte after these, where it reads the first of them so.
+    pub(super) fn after_bytes(self, bytes: &[u8]) -> ShellState
+        ensures { result ≡ after_bytes self bytes.now }
+    {
+        let mut state = self;
+        for byte in bytes {
+            state = state.after_byte(*byte);
+        }
+        state
+    }
+
+    /// How it reads the byte after this one.
+    fn after_byte(self, byte: u8) -> ShellState
+        ensures { result ≡ after_byte self byte }
+    {
+        match self {
+            ShellState::Bare => after_bare(byte),
+            ShellState::AfterBackslash => ShellState::Bare,
+            ShellState::Single => after_single(byte),
+            ShellState::Double => after_double(byte),
+            ShellState::DoubleAfterBackslash => ShellState::Double,
+        }
+    }
+}
+
+/// How it reads the byte after one outside quotes.
+fn after_bare(byte: u8) -> ShellState
+    ensures { result ≡ after_byte ShellState.Bare byte }
+{
+    match byte {
+        b'\'' => ShellState::Single,
+        b'"' => ShellState::Double,
+        b'\\' => ShellState::AfterBackslash,
+        _ => ShellState::Bare,
+    }
+}
+
+/// How it reads the byte after one within single quotes, where a backslash is a byte like others.
+fn after_single(byte: u8) -> ShellState
+    ensures { result ≡ after_byte ShellState.Single byte }
+{
+    match byte {
+        b'\'' => ShellState::Bare,
+        _ => ShellState::Single,
+    }
+}
+
+/// How it reads the byte after one within double quotes.
+fn after_double(byte: u8) -> ShellState
+    ensures { result ≡ after_byte ShellState.Double byte }
+{
+    match byte {
+        b'"' => ShellState::Bare,
+        b'\\' => ShellState::DoubleAfterBackslash,
+        _ => ShellState::Double,
+    }
+}
