@@ -398,6 +398,30 @@ fn what_is_rejected_may_let_none_in(rt: HostRuntime) {
     }
 }
 
+#[test]
+fn what_is_no_status_is_said(rt: HostRuntime) {
+    let gate = r#"{"bases":["https://r/"],"require":{"gerrit":{"status":["NEW","OPEN",""]}},
+"reject":{"gerrit":{"status":["merged","ABANDONED","MERGED "]}}}"#;
+    let lines = r#"require /require/gerrit/status status "NEW" or "OPEN" or ""
+reject /reject/gerrit/status status "merged" or "ABANDONED" or "MERGED "
+warning 9 NoStatus /require/gerrit/status "OPEN"
+warning 9 NoStatus /require/gerrit/status ""
+warning 9 NoStatus /reject/gerrit/status "merged"
+warning 9 NoStatus /reject/gerrit/status "MERGED "
+end 2 4
+"#;
+    assert_check(&rt, rt.alloc(), gate, 0, lines, "");
+    let never = r#"{"bases":["https://r/"],"require":{"gerrit":{"status":"new","approval":{"username":"a*"}}}}"#;
+    let lines = r#"require /require/gerrit/status status "new"
+require /require/gerrit/approval/0 any vote by "a*"
+warning 4 NeverMet /require/gerrit/status
+warning 9 NoStatus /require/gerrit/status "new"
+warning 1 Pattern /require/gerrit/approval/0 "a*"
+end 2 3
+"#;
+    assert_check(&rt, rt.alloc(), never, 0, lines, "");
+}
+
 /// Approvals that are rejected and accept no vote, and such as accept one.
 const REJECTED: &str = r#"{"bases":["https://r/"],"require":{"gerrit":{"approval":{"Verified":0}}},
 "reject":{"gerrit":{"approval":[{"Verified":-1,"Code-Review":-2},{"Verified":0},{"Verified":[]},

@@ -1,9 +1,10 @@
 -- What looks mistaken in a gate: warnings, each with its number and name, the place of the condition, what it is about,
 -- and the nearest name that there is.
-use Rattle.std.specs.Prelude.{ℕ, List, [], ◌∷◌, ◌++◌, Bool, not, ◌&&◌, Option, None, Some, codes}
+use Rattle.std.specs.Prelude.{ℕ, List, [], ◌∷◌, ◌++◌, Bool, not, ◌&&◌, ◌||◌, Option, None, Some, codes}
 use Rattle.std.specs.Prelude.{decimal, flat_map, if◌then◌else◌, length, map, nat_eq, nat_le, slice_get}
 use Rattle.std.specs.Char.{is_ascii_graphic}
 use Rattle.std.specs.List.{list_all}
+use Rattle.std.specs.Str.{bytes_eq}
 use Rattle.json.specs.Print.{quoted}
 use Rattle.gate_rules.specs.Own.{side_rules, some}
 use Rattle.gate_rules.specs.Rules.{GateRules, LabelRule, PatternRule}
@@ -16,7 +17,7 @@ use Rattle.gate_check.specs.Evidence.{Evidence, names_shown_by}
 use Rattle.gate_check.specs.Names.{KnownNames, has_known}
 use Rattle.gate_check.specs.Nearest.{nearest}
 use Rattle.gate_check.specs.declared.warning.Warning.{Warning}
-use Rattle.gate_check.specs.declared.warning.Warning.TheVariants.{IgnoredFooter, NeverMet, NoVoter, Pattern}
+use Rattle.gate_check.specs.declared.warning.Warning.TheVariants.{IgnoredFooter, NeverMet, NoStatus, NoVoter, Pattern}
 use Rattle.gate_check.specs.declared.warning.Warning.TheVariants.{RejectsNothing, UnknownLabel, UnknownVoter, UnusedBase}
 
 abbrev pub number_of : Warning → ℕ
@@ -28,6 +29,7 @@ number_of UnusedBase = 5
 number_of NoVoter = 6
 number_of IgnoredFooter = 7
 number_of RejectsNothing = 8
+number_of NoStatus = 9
 
 abbrev pub name_of : Warning → List ℕ
 name_of Pattern = codes "Pattern"
@@ -38,6 +40,7 @@ name_of UnusedBase = codes "UnusedBase"
 name_of NoVoter = codes "NoVoter"
 name_of IgnoredFooter = codes "IgnoredFooter"
 name_of RejectsNothing = codes "RejectsNothing"
+name_of NoStatus = codes "NoStatus"
 
 -- a warning: its kind, a place of the gate file, what it is about, where it is about something, and the nearest name
 -- that there is, where one is near enough
@@ -149,6 +152,20 @@ footer_warnings (Some evidence) = map footer_warning evidence.ignored
 abbrev pub nothing_rejected : Bool → List ℕ → List Found
 nothing_rejected is_so place = warned is_so (of_place RejectsNothing place)
 
+-- ---- 9 NoStatus: no change has the status (Gerrit's "ChangeStatus": NEW, MERGED and ABANDONED)
+
+abbrev pub is_status_name : List ℕ → Bool
+is_status_name name =
+    bytes_eq name (codes "NEW") || (bytes_eq name (codes "MERGED") || bytes_eq name (codes "ABANDONED"))
+
+abbrev pub status_warning : List ℕ → List ℕ → List Found
+status_warning place name = warned (not (is_status_name name)) (about_text NoStatus place name)
+
+-- of each name that is asked for at a place
+abbrev pub status_warnings : List ℕ → Option (List (List ℕ)) → List Found
+status_warnings place None = []
+status_warnings place (Some names) = flat_map (status_warning place) names
+
 -- ---- the warnings of a gate
 
 -- of a username, whatever a record has
@@ -182,10 +199,15 @@ first_warnings gate side =
     ++ key_warnings gate side (codes "current-patchset") (is_current_never_met gate side)
     ++ key_warnings gate side (codes "status") (is_status_never_met gate side)
 
+-- of the statuses that a side asks for
+abbrev pub asked_statuses : GateRules → Side → List Found
+asked_statuses gate side = status_warnings (pointer_of gate side (codes "status")) (side_rules gate side).status
+
 -- of a side's conditions
 abbrev pub side_warnings : GateRules → Option KnownNames → Side → List Found
 side_warnings gate names side =
-    first_warnings gate side ++ by_place (approval_warnings gate names side) 0 (side_rules gate side).approvals
+    first_warnings gate side ++ asked_statuses gate side
+    ++ by_place (approval_warnings gate names side) 0 (side_rules gate side).approvals
 
 -- condition by condition, as items are judged by them
 abbrev pub condition_warnings : GateRules → Option KnownNames → List Found

@@ -31,10 +31,10 @@ pub struct Checked {
 /// those of footers, in byte order; and `end` with how many there are of both. Where the state of a record is given,
 /// labels, voters and bases are looked for there, of a label or a voter that it lacks the nearest is named, and its
 /// footers that begin with a base and yet name no change. The warnings are 1 `Pattern`, 2 `UnknownLabel`, 3
-/// `UnknownVoter`, 4 `NeverMet`, 5 `UnusedBase`, 6 `NoVoter`, 7 `IgnoredFooter` and 8 `RejectsNothing`. It costs
-/// O(b + p q + v log n + m) for b bytes of text, p values of patterns that are required, q patterns that are rejected, v
-/// votes of n labels and voters and m bytes of messages for each base, for each unknown name O(c d) for its c characters
-/// and d of all names, and O(f log f) for the f footers that it names.
+/// `UnknownVoter`, 4 `NeverMet`, 5 `UnusedBase`, 6 `NoVoter`, 7 `IgnoredFooter`, 8 `RejectsNothing` and 9 `NoStatus`.
+/// It costs O(b + p q + v log n + m) for b bytes of text, p values of patterns that are required, q patterns that are
+/// rejected, v votes of n labels and voters and m bytes of messages for each base, for each unknown name O(c d) for its
+/// c characters and d of all names, and O(f log f) for the f footers that it names.
 pub fn check_gate(alloc: Global, gate: &Gate, state: Option<&State>) -> Result<Checked, NoMemory>
     ensures { IfOk result (λ check. IsCheck check_text gate.now (option_map (λ known. known.now) state.entry)
         (string_bytes check.text) check.warnings) }

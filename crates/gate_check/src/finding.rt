@@ -10,7 +10,8 @@ ghost use Rattle.gate_check.specs.Warnings.{can_vote, condition_warnings, first_
 ghost use Rattle.gate_check.specs.Warnings.{footer_warnings, is_sign, key_warnings, label_warning, nobody_warnings};
 ghost use Rattle.gate_check.specs.Warnings.{of_place, pattern_warnings, side_warnings, unknown_name};
 ghost use Rattle.gate_check.specs.Warnings.{unknown_warnings, username_warnings, vote_warnings, voter_warnings};
-ghost use Rattle.gate_check.specs.Warnings.{warned, warnings_at, warnings_of};
+ghost use Rattle.gate_check.specs.Warnings.{asked_statuses, is_status_name, status_warning, warned, warnings_at};
+ghost use Rattle.gate_check.specs.Warnings.{warnings_of};
 
 use super::evidence::Evidence;
 use super::found::Finding;
@@ -82,6 +83,7 @@ fn add_side(
         ++ side_warnings gate.now (option_map (λ known. names_shown known.now) names.entry) side) }
 {
     add_first(alloc, gate, side, found)?;
+    add_statuses(alloc, gate, side, found)?;
     let approvals = gate.clauses(side).approvals();
     add_approvals(alloc, gate, names, side, approvals, found)?;
     Ok(())
@@ -102,6 +104,60 @@ fn add_first(
     add_key(alloc, gate, side, "current-patchset", is_current, found)?;
     let is_status = is_status_never_met(gate, side);
     add_key(alloc, gate, side, "status", is_status, found)
+}
+
+/// Adds those of the statuses that a side asks for.
+fn add_statuses(
+    alloc: Global,
+    gate: &Gate,
+    side: Side,
+    found: &mut Vec<Finding>,
+) -> Result<(), NoMemory>
+    ensures { OnOk result (found.new.items ≡ found.old.items ++ asked_statuses gate.now side) }
+{
+    let Some(names) = gate.clauses(side).statuses() else {
+        return Ok(());
+    };
+    let place = place_of(alloc, gate, side, "status")?;
+    add_status_names(alloc, place.as_str(), names, found)
+}
+
+/// Adds those of the names of statuses that are asked for at a place.
+fn add_status_names(
+    alloc: Global,
+    place: &str,
+    names: &[String],
+    found: &mut Vec<Finding>,
+) -> Result<(), NoMemory>
+    ensures { OnOk result (found.new.items
+        ≡ found.old.items ++ flat_map (status_warning place.now) (map string_bytes names.now)) }
+{
+    for name in names {
+        add_status_name(alloc, place, name.as_str(), found)?;
+    }
+    Ok(())
+}
+
+/// Adds that no change has a status of this name, if it is so.
+fn add_status_name(
+    alloc: Global,
+    place: &str,
+    name: &str,
+    found: &mut Vec<Finding>,
+) -> Result<(), NoMemory>
+    ensures { OnOk result (found.new.items ≡ found.old.items ++ status_warning place.now name.now) }
+{
+    if !is_status_name(name) {
+        found.push(Finding::new(alloc, Warning::NoStatus, place, Some(name), None)?)?;
+    }
+    Ok(())
+}
+
+/// Whether a status of changes has this name.
+fn is_status_name(name: &str) -> bool
+    ensures { result ≡ is_status_name name.now }
+{
+    name == "NEW" || name == "MERGED" || name == "ABANDONED"
 }
 
 /// Adds that what a side asks under a key is never met, if it is so.

@@ -22,6 +22,8 @@ pub enum Warning {
     IgnoredFooter,
     /// An approval that is rejected accepts no vote.
     RejectsNothing,
+    /// No change has the status.
+    NoStatus,
 }
 
 impl Warning {
@@ -38,6 +40,7 @@ impl Warning {
             Warning::NoVoter => 6,
             Warning::IgnoredFooter => 7,
             Warning::RejectsNothing => 8,
+            Warning::NoStatus => 9,
         }
     }
 
@@ -54,6 +57,7 @@ impl Warning {
             Warning::NoVoter => "NoVoter",
             Warning::IgnoredFooter => "IgnoredFooter",
             Warning::RejectsNothing => "RejectsNothing",
+            Warning::NoStatus => "NoStatus",
         }
     }
 }
