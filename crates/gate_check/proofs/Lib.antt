@@ -7,4 +7,5 @@ pub mod Missed
 pub mod Nearby
 pub mod Sought
 pub mod Voters
+pub mod Statuses
 pub mod Taken

@@ -6,6 +6,8 @@ use Rattle.std.specs.Char.{is_ascii_graphic}
 use Rattle.std.specs.List.{list_all}
 use Rattle.std.specs.Str.{bytes_eq}
 use Rattle.json.specs.Print.{quoted}
+use Rattle.change_core.specs.Status.{status_name}
+use Rattle.change_core.specs.declared.life.Status.TheVariants.{New, Abandoned, Merged}
 use Rattle.gate_rules.specs.Own.{side_rules, some}
 use Rattle.gate_rules.specs.Rules.{GateRules, LabelRule, PatternRule}
 use Rattle.gate_rules.specs.declared.condition.Side.{Side}
@@ -156,7 +158,7 @@ nothing_rejected is_so place = warned is_so (of_place RejectsNothing place)
 
 abbrev pub is_status_name : List ℕ → Bool
 is_status_name name =
-    bytes_eq name (codes "NEW") || (bytes_eq name (codes "MERGED") || bytes_eq name (codes "ABANDONED"))
+    bytes_eq name (status_name New) || (bytes_eq name (status_name Merged) || bytes_eq name (status_name Abandoned))
 
 abbrev pub status_warning : List ℕ → List ℕ → List Found
 status_warning place name = warned (not (is_status_name name)) (about_text NoStatus place name)

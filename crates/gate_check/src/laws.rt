@@ -1,6 +1,8 @@
 //! What the tests of warnings mean.
 
 ghost use Rattle.std.specs.Prelude.{◌≡◌, ◌↔◌, ◌||◌, All, ℕ, List, Some, false, slice_get, suc, true};
+ghost use Rattle.change_core.specs.Status.{status_name};
+ghost use Rattle.change_core.specs.declared.life.Status.{Status};
 ghost use Rattle.gate_rules.specs.Own.{names};
 ghost use Rattle.gate_rules.specs.Rules.{GateRules, PatternRule};
 ghost use Rattle.gate_rules.specs.declared.condition.Clause.TheVariants.{Approval};
@@ -11,7 +13,7 @@ ghost use Rattle.gate_check.specs.Meeting.{is_current_never_met, is_never_met, i
 ghost use Rattle.gate_check.specs.Meeting.{lets_none_in, rejects_nothing};
 ghost use Rattle.gate_check.specs.Names.{AreTheSameTexts};
 ghost use Rattle.gate_check.specs.Nearest.{FindsNearest};
-ghost use Rattle.gate_check.specs.Warnings.{can_vote};
+ghost use Rattle.gate_check.specs.Warnings.{can_vote, is_status_name};
 ghost use Rattle.review_ops.specs.Good.{IsVoter};
 
 /// Where a gate has a condition that is never met, an item of any change breaks some condition of the gate. Where the
@@ -40,6 +42,11 @@ pub fn what_rejects_nothing_is_never_broken()
     ensures taken { (pattern : PatternRule) (voter : List ℕ) → rejects_nothing Reject pattern ≡ false
         → All IsWritable pattern.labels → IsVoter voter → names pattern.username voter ≡ true
         → TakesVoteOf pattern voter }
+{}
+
+/// Just the names of the statuses that a change may have are names of statuses.
+pub fn status_names_are_those_of_changes()
+    ensures { (name : List ℕ) → (is_status_name name ≡ true) ↔ (status : Status) × (name ≡ status_name status) }
 {}
 
 /// Just the names that a vote's voter may have are names that somebody can have.
