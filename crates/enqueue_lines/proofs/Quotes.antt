@@ -6,8 +6,8 @@ use Rattle.std.specs.List.{list_all}
 use Rattle.std.proofs.lemmas.List.Concat.{flat_map-append}
 use Rattle.enqueue_lines.specs.Quoting.{is_bare_byte, is_plain, quoted, within_quotes}
 use Rattle.enqueue_lines.specs.Shell.{after_byte, after_bytes}
-use Rattle.enqueue_lines.specs.Template.{AreBareFrom, Given, Part, Reads, ValuesStandBare, field, field_spelling, field_value}
-use Rattle.enqueue_lines.specs.Template.{filled, spelling, spells, text, with_field}
+use Rattle.enqueue_lines.specs.Template.{AreBareFrom, Given, Part, Reads, ValuesStandBare, field, field_spelling}
+use Rattle.enqueue_lines.specs.Template.{field_value, filled, spelling, spells, text, with_field}
 use Rattle.enqueue_lines.specs.declared.shell.ShellState.{ShellState}
 use Rattle.enqueue_lines.specs.declared.shell.ShellState.TheVariants.{AfterBackslash, Bare, Double, Single}
 use Rattle.enqueue_lines.specs.declared.template.Field.{Field}

@@ -2,8 +2,8 @@
 -- reads in comments, here-documents and substitutions is left out.
 use Rattle.std.specs.Prelude.{◌==◌, ℕ, List, [], ◌∷◌, if◌then◌else◌}
 use Rattle.enqueue_lines.specs.declared.shell.ShellState.{ShellState}
-use Rattle.enqueue_lines.specs.declared.shell.ShellState.TheVariants.{AfterBackslash, Bare, Double, DoubleAfterBackslash}
-use Rattle.enqueue_lines.specs.declared.shell.ShellState.TheVariants.{Single}
+use Rattle.enqueue_lines.specs.declared.shell.ShellState.TheVariants.{AfterBackslash, Bare, Double}
+use Rattle.enqueue_lines.specs.declared.shell.ShellState.TheVariants.{DoubleAfterBackslash, Single}
 
 -- outside quotes a backslash quotes the byte behind it (2.2.1); single quotes last up to the next single quote (2.2.2),
 -- and double quotes up to the next double quote that isn't behind a backslash (2.2.3)

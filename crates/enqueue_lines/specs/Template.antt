@@ -49,7 +49,7 @@ abbrev pub IsPlainPart : Part → Type 0
 IsPlainPart (text plain) = LacksByte 123 plain
 IsPlainPart (field named) = Unit {0}
 
--- a shell that reads the first byte of the pieces so reads each of their fields outside quotes
+-- a shell that is in this state before a piece, or before pieces, reads each field of them outside quotes
 abbrev pub IsBarePart : ShellState → Part → Type 0
 IsBarePart state (text plain) = Unit {0}
 IsBarePart state (field named) = state ≡ Bare
@@ -110,13 +110,13 @@ filled parts values = flat_map (filled_part values) parts
 
 -- whatever values are put in before a field, a shell reads the field's own value from outside quotes on
 abbrev pub ValuesStandBare : List Part → Type 0
-ValuesStandBare parts = (values : Given) (before after : List Part) (named : Field) → parts ≡ before ++ field named ∷ after
-    → after_bytes Bare (filled before values) ≡ Bare
+ValuesStandBare parts = (values : Given) (before after : List Part) (named : Field)
+    → parts ≡ before ++ field named ∷ after → after_bytes Bare (filled before values) ≡ Bare
 
 -- ---- what is refused
 
--- what follows an open brace has no closing one; or there is one, and what is before the first is no field's name, or is
--- one that a shell reads as quoted, by the state in which it reads the brace
+-- what follows an open brace has no closing one; or there is one, and what is before the first is no field's name, or
+-- is one that a shell reads as quoted, by the state in which it reads the brace
 abbrev pub IsWrongBrace : ShellState → List ℕ → TemplateFault → Type 0
 IsWrongBrace state after OpenBrace = LacksByte 125 after
 IsWrongBrace state after (UnknownField name) =
@@ -126,8 +126,8 @@ IsWrongBrace state after (QuotedField named) =
     (next : List ℕ) × (after ≡ name_of named ++ codes "}" ++ next) × (state ≢ Bare)
 IsWrongBrace state after NoMemory = ⊥
 
--- the text begins with pieces, none of whose texts has an open brace and none of whose fields stands in quotes, and then
--- has the first brace that is wrong; or memory was refused
+-- the text begins with pieces, none of whose texts has an open brace and none of whose fields stands in quotes, and
+-- then has the first brace that is wrong; or memory was refused
 abbrev pub IsRefusedTemplate : List ℕ → TemplateFault → Type 0
 IsRefusedTemplate whole fault =
     ((parts : List Part) × (after : List ℕ) × (whole ≡ spells parts ++ codes "{" ++ after)

@@ -20,7 +20,8 @@ use Rattle.gate_check.specs.Names.{KnownNames, has_known}
 use Rattle.gate_check.specs.Nearest.{nearest}
 use Rattle.gate_check.specs.declared.warning.Warning.{Warning}
 use Rattle.gate_check.specs.declared.warning.Warning.TheVariants.{IgnoredFooter, NeverMet, NoStatus, NoVoter, Pattern}
-use Rattle.gate_check.specs.declared.warning.Warning.TheVariants.{RejectsNothing, UnknownLabel, UnknownVoter, UnusedBase}
+use Rattle.gate_check.specs.declared.warning.Warning.TheVariants.{RejectsNothing, UnknownLabel, UnknownVoter}
+use Rattle.gate_check.specs.declared.warning.Warning.TheVariants.{UnusedBase}
 
 abbrev pub number_of : Warning → ℕ
 number_of Pattern = 1

@@ -32,9 +32,9 @@ pub fn what_is_never_met_lets_nothing_in()
         → (is_never_met gate Require pattern ≡ true) ↔ IsRejected gate.reject.approvals pattern }
 {}
 
-/// Where an approval that is rejected rejects nothing, no item of any change breaks that condition. Any other one, if its
-/// labels and values are such as those of a record, as in a gate file, takes a vote that a record may hold, which isn't
-/// 0, by each voter whom it names.
+/// Where an approval that is rejected rejects nothing, no item of any change breaks that condition. Any other one, if
+/// its labels and values are such as those of a record, as in a gate file, takes a vote that a record may hold, which
+/// isn't 0, by each voter whom it names.
 pub fn what_rejects_nothing_is_never_broken()
     ensures broken { (gate : GateRules) (place : ℕ) (pattern : PatternRule)
         → slice_get gate.reject.approvals place ≡ Some pattern → rejects_nothing Reject pattern ≡ true
