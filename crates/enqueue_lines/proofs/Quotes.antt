@@ -9,7 +9,8 @@ use Rattle.enqueue_lines.specs.Shell.{after_byte, after_bytes}
 use Rattle.enqueue_lines.specs.Template.{AreBareFrom, Given, Part, Reads, ValuesStandBare, field, field_spelling}
 use Rattle.enqueue_lines.specs.Template.{field_value, filled, spelling, spells, text, with_field}
 use Rattle.enqueue_lines.specs.declared.shell.ShellState.{ShellState}
-use Rattle.enqueue_lines.specs.declared.shell.ShellState.TheVariants.{AfterBackslash, Bare, Double, Single}
+use Rattle.enqueue_lines.specs.declared.shell.ShellState.TheVariants.{AfterBackslash, AfterDollar, Bare, Double}
+use Rattle.enqueue_lines.specs.declared.shell.ShellState.TheVariants.{Single}
 use Rattle.enqueue_lines.specs.declared.template.Field.{Field}
 use Rattle.enqueue_lines.specs.declared.template.Field.TheVariants.{Tenant, Pipeline, Project, Branch, Change, Set}
 use Rattle.enqueue_lines.proofs.Words.{both_true, differs}
@@ -75,9 +76,11 @@ byte_bare byte plain =
     let no_quote = differs byte 39 (byte == 39) refl plain refl in
     let no_double = differs byte 34 (byte == 34) refl plain refl in
     let no_backslash = differs byte 92 (byte == 92) refl plain refl in
-    ap (λ t. cond t Single (cond (byte == 34) Double (cond (byte == 92) AfterBackslash Bare))) no_quote
-    ∙ ap (λ t. cond t Double (cond (byte == 92) AfterBackslash Bare)) no_double
-    ∙ ap (λ t. cond t AfterBackslash Bare) no_backslash
+    let no_dollar = differs byte 36 (byte == 36) refl plain refl in
+    ap (λ t. cond t Single (cond (byte == 34) Double (cond (byte == 92) AfterBackslash (cond (byte == 36) AfterDollar Bare)))) no_quote
+    ∙ ap (λ t. cond t Double (cond (byte == 92) AfterBackslash (cond (byte == 36) AfterDollar Bare))) no_double
+    ∙ ap (λ t. cond t AfterBackslash (cond (byte == 36) AfterDollar Bare)) no_backslash
+    ∙ ap (λ t. cond t AfterDollar Bare) no_dollar
 
 plain_bare : (word : List ℕ) → list_all is_bare_byte word ≡ true → after_bytes Bare word ≡ Bare
 plain_bare [] all = refl

@@ -49,7 +49,8 @@ abbrev pub IsPlainPart : Part → Type 0
 IsPlainPart (text plain) = LacksByte 123 plain
 IsPlainPart (field named) = Unit {0}
 
--- a shell that is in this state before a piece, or before pieces, reads each field of them outside quotes
+-- a shell that is in this state before a piece, or before pieces, reads each field of them outside quotes, and none
+-- behind a dollar
 abbrev pub IsBarePart : ShellState → Part → Type 0
 IsBarePart state (text plain) = Unit {0}
 IsBarePart state (field named) = state ≡ Bare
@@ -59,7 +60,7 @@ AreBareFrom state [] = Unit {0}
 AreBareFrom state (part ∷ parts) = IsBarePart state part × AreBareFrom (after_bytes state (spelling part)) parts
 
 -- the pieces are a reading of the text: they spell it, none of their texts has an open brace, and none of their fields
--- stands in quotes
+-- stands in quotes or behind a dollar
 pub record Reads (whole : List ℕ) (parts : List Part) : Type 0 where
   pub spelled : whole ≡ spells parts
   pub plain : All IsPlainPart parts
@@ -108,7 +109,8 @@ filled_part values (field named) = quoted (field_value values named)
 abbrev pub filled : List Part → Given → List ℕ
 filled parts values = flat_map (filled_part values) parts
 
--- whatever values are put in before a field, a shell reads the field's own value from outside quotes on
+-- whatever values are put in before a field, a shell reads the field's own value from outside quotes on, and not behind
+-- a dollar
 abbrev pub ValuesStandBare : List Part → Type 0
 ValuesStandBare parts = (values : Given) (before after : List Part) (named : Field)
     → parts ≡ before ++ field named ∷ after → after_bytes Bare (filled before values) ≡ Bare
@@ -116,7 +118,7 @@ ValuesStandBare parts = (values : Given) (before after : List Part) (named : Fie
 -- ---- what is refused
 
 -- what follows an open brace has no closing one; or there is one, and what is before the first is no field's name, or
--- is one that a shell reads as quoted, by the state in which it reads the brace
+-- is one that a shell reads as quoted or behind a dollar, by the state in which it reads the brace
 abbrev pub IsWrongBrace : ShellState → List ℕ → TemplateFault → Type 0
 IsWrongBrace state after OpenBrace = LacksByte 125 after
 IsWrongBrace state after (UnknownField name) =
@@ -126,8 +128,8 @@ IsWrongBrace state after (QuotedField named) =
     (next : List ℕ) × (after ≡ name_of named ++ codes "}" ++ next) × (state ≢ Bare)
 IsWrongBrace state after NoMemory = ⊥
 
--- the text begins with pieces, none of whose texts has an open brace and none of whose fields stands in quotes, and
--- then has the first brace that is wrong; or memory was refused
+-- the text begins with pieces, none of whose texts has an open brace and none of whose fields stands in quotes or behind
+-- a dollar, and then has the first brace that is wrong; or memory was refused
 abbrev pub IsRefusedTemplate : List ℕ → TemplateFault → Type 0
 IsRefusedTemplate whole fault =
     ((parts : List Part) × (after : List ℕ) × (whole ≡ spells parts ++ codes "{" ++ after)

@@ -13,7 +13,7 @@ pub enum TemplateFault<'a> {
     UnknownField(&'a str),
     /// 8: no brace closes one that is open.
     OpenBrace,
-    /// 11: this field stands within quotes, or behind a backslash.
+    /// 11: this field stands within quotes, or behind a backslash or a dollar.
     QuotedField(Field),
     /// 5: memory was refused.
     NoMemory,

@@ -1,13 +1,15 @@
 //! How a shell reads the bytes of a template.
 
 ghost use Rattle.std.specs.Prelude.{◌≡◌};
-ghost use Rattle.enqueue_lines.specs.Shell.{after_byte, after_bytes};
+ghost use Rattle.enqueue_lines.specs.Shell.{after_bare, after_byte, after_bytes};
 
 /// How a POSIX shell reads the next byte of a text.
 #[derive(Clone, Copy, Debug, PartialEq, Eq)]
 pub enum ShellState {
     /// Outside quotes.
     Bare,
+    /// Behind a dollar outside quotes.
+    AfterDollar,
     /// Behind a backslash outside quotes.
     AfterBackslash,
     /// Within single quotes.
@@ -35,7 +37,7 @@ impl ShellState {
         ensures { result ≡ after_byte self byte }
     {
         match self {
-            ShellState::Bare => after_bare(byte),
+            ShellState::Bare | ShellState::AfterDollar => after_bare(byte),
             ShellState::AfterBackslash => ShellState::Bare,
             ShellState::Single => after_single(byte),
             ShellState::Double => after_double(byte),
@@ -46,12 +48,13 @@ impl ShellState {
 
 /// How it reads the byte after one outside quotes.
 fn after_bare(byte: u8) -> ShellState
-    ensures { result ≡ after_byte ShellState.Bare byte }
+    ensures { result ≡ after_bare byte }
 {
     match byte {
         b'\'' => ShellState::Single,
         b'"' => ShellState::Double,
         b'\\' => ShellState::AfterBackslash,
+        b'$' => ShellState::AfterDollar,
         _ => ShellState::Bare,
     }
 }

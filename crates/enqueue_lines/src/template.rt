@@ -105,7 +105,8 @@ impl Template {
     /// Reads a template: each name in braces is a field, and all else is text. Refusals: 7 `UnknownField`, the first
     /// braces that aren't right have no field's name between them; 8 `OpenBrace`, no brace closes the first one that
     /// isn't right; 11 `QuotedField`, the first braces that aren't right stand where a shell reads them as quoted, so
-    /// that a value's own quotes would quote nothing; 5 `NoMemory`. It costs O(n) for n bytes.
+    /// that a value's own quotes would quote nothing, or behind a dollar, so that it reads a parameter's name; 5
+    /// `NoMemory`. It costs O(n) for n bytes.
     pub fn read(alloc: Global, text: &str) -> Result<Template, TemplateFault<'_>>
         ensures read { IfOk result (Reads text.entry.now) }
         ensures refused { IfErr result (IsRefusedTemplate text.entry.now) }
@@ -147,7 +148,7 @@ fn next_brace(rest: &str) -> Option<(&str, &str)>
 }
 
 /// The field that begins a text, which follows an open brace, and what comes after the brace that closes it; where the
-/// plain text before that brace, which a shell begins to read outside quotes, doesn't end within them.
+/// plain text before that brace, which a shell begins to read outside quotes, ends neither within them nor in a dollar.
 fn field_behind<'a>(plain: &str, after: &'a str) -> Result<(Field, &'a str), TemplateFault<'a>>
     ensures text { IfOk result (λ found. IsUtf8 found.1.now) }
     ensures closed { IfOk result (λ found. after.entry.now ≡ name_of found.0 ++ codes "}" ++ found.1.now) }
@@ -271,7 +272,7 @@ pub fn templates_have_one_reading()
 {}
 
 /// A law: whatever values are put into a template, none opens or closes quotes: a shell reads each of them from outside
-/// quotes on.
+/// quotes on, and none behind a dollar.
 pub fn values_are_read_outside_quotes()
     ensures { (whole : List ℕ) (parts : List Part) → Reads whole parts → ValuesStandBare parts }
 {}

@@ -64,6 +64,7 @@ const TEMPLATES: &[(&str, &str)] = &[
     (r"\'{set}\\{change}", r"\'2\\4294967295"),
     (r#"'\'{set}"\"\\"{project}"#, r#"'\'2"\"\\"'a site'"#),
     ("{set} it's", "2 it's"),
+    (r"$x{set} \${change} '$'{set}$", r"$x2 \$4294967295 '$'2$"),
 ];
 
 #[test]
@@ -98,7 +99,7 @@ fn wrong_braces_are_refused(rt: HostRuntime) -> Result<(), Fail> {
     Ok(())
 }
 
-/// Templates with a field that a shell reads as quoted, and how each is refused.
+/// Templates with a field that a shell reads as quoted, or as a parameter's name, and how each is refused.
 const QUOTED: &[(&str, &str)] = &[
     (r#"echo "refs/heads/{branch}""#, "11 QuotedField branch"),
     ("echo 'refs/heads/{branch}'", "11 QuotedField branch"),
@@ -113,6 +114,9 @@ const QUOTED: &[(&str, &str)] = &[
     (r#""\\"{change}\\\{set}"#, "11 QuotedField set"),
     (r#""'"{change}'"{set}"#, "11 QuotedField set"),
     (r"\\\'{change}'{set}", "11 QuotedField set"),
+    ("echo ${branch}", "11 QuotedField branch"),
+    ("echo $${change}", "11 QuotedField change"),
+    (r"\$$'a'\\${set}", "11 QuotedField set"),
 ];
 
 #[test]
