@@ -1145,7 +1145,8 @@ class Offered(Feed):
 
     def before(self, parsed: ParsedLine) -> None:
         for number in self.asked(parsed):
-            self.output += b"ask %d\n" % number
+            is_own = parsed.part == "event" and parsed.change == number
+            self.output += b"%s %d\n" % (b"ask" if is_own else b"need", number)
 
     def asked(self, parsed: ParsedLine) -> list:
         """The changes that have to be queried: that of an event which brings a patch set, restores an abandoned change,

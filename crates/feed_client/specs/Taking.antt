@@ -1,7 +1,7 @@
 -- What a feed of a site does with a line: it writes first which changes have to be queried, and then offers what it
 -- found.
-use Rattle.std.specs.Prelude.{◌≡◌, ◌⊎◌, ◌↔◌, ℕ, true, List, ◌++◌, Option, Result, Ok, Err, codes, decimal}
-use Rattle.std.specs.Prelude.{flat_map}
+use Rattle.std.specs.Prelude.{◌≡◌, ◌⊎◌, ◌↔◌, ℕ, Bool, true, false, List, ◌++◌, Option, Some, Result, Ok, Err, codes, decimal}
+use Rattle.std.specs.Prelude.{flat_map, if◌then◌else◌, nat_eq}
 use Rattle.std.specs.BTreeSet.{BTreeSet, contains}
 use Rattle.std.specs.Ordering.{nat_cmp}
 use Rattle.event_feed.specs.Ends.{End, FeedIsCutShort, IsWritten}
@@ -13,6 +13,8 @@ use Rattle.event_filter.specs.Against.{against_first}
 use Rattle.event_filter.specs.Asking.{AsksFor}
 use Rattle.gerrit_events.specs.Projects.{Choice}
 use Rattle.gerrit_events.specs.Reading.{ParsedLine}
+use Rattle.gerrit_events.specs.declared.part.Part.{Part}
+use Rattle.gerrit_events.specs.declared.part.Part.TheVariants.{Event}
 use Rattle.review_ops.specs.Deed.{Deed}
 use Rattle.review_ops.specs.Timestamp.{Timestamp}
 use Rattle.state_core.specs.State.{State}
@@ -40,6 +42,21 @@ ask_line change = codes "ask " ++ decimal change ++ codes "\n"
 abbrev pub ask_lines : List ℕ → List ℕ
 ask_lines changes = flat_map ask_line changes
 
+-- a change that the line of another one needs has to be queried
+abbrev pub need_line : ℕ → List ℕ
+need_line change = codes "need " ++ decimal change ++ codes "\n"
+
+-- the line is an event of this change
+abbrev pub is_event_of : Part → ℕ → Bool
+is_event_of (Event (Some number)) change = nat_eq number change
+is_event_of part change = false
+
+abbrev pub asked_line : Part → ℕ → List ℕ
+asked_line part change = if is_event_of part change then ask_line change else need_line change
+
+abbrev pub asked_lines : Part → List ℕ → List ℕ
+asked_lines part changes = flat_map (asked_line part) changes
+
 -- just these changes have to be asked for, where the line is to be met by the record
 abbrev pub AreAsked : Option (List (List ℕ)) → State → ParsedLine → BTreeSet ℕ → Type 0
 AreAsked bases state parsed asks =
@@ -56,13 +73,14 @@ LearnsNews answers old new (Err fault) =
     × (new.place.errors ≡ old.place.errors) × (new.output ≡ old.output) × (new.bases ≡ old.bases)
 
 module _ {Site : Type 0} (replies : Site → Deed → Result Timestamp IntakeFault → Site → Type 0) where
-  -- the `ask` lines of these changes are written, and then the findings are processed, votes below 0 first; if the
-  -- `ask` lines are cut short, none is processed
+  -- the lines that ask for these changes are written, and then the findings are processed, votes below 0 first; if
+  -- those lines are cut short, none is processed
   abbrev pub AsksAndMeets : ℕ → BTreeSet ℕ → ParsedLine → Seen Site → Seen Site → Result (Unit {0}) FeedFault → Type 0
   AsksAndMeets number asks parsed old new result =
-      (IsWritten (ask_lines asks.keys) old.output new.output
+      (IsWritten (asked_lines parsed.part asks.keys) old.output new.output
       × InTurn (Meets replies number) (against_first parsed.findings) old.place new.place result)
-      ⊎ (FeedIsCutShort (ask_lines asks.keys) old.output new.output × (result ≡ Err WriteFault) × (new.place ≡ old.place))
+      ⊎ (FeedIsCutShort (asked_lines parsed.part asks.keys) old.output new.output × (result ≡ Err WriteFault)
+      × (new.place ≡ old.place))
 
   -- the line with this number is processed; nothing is done if memory is refused for the changes to ask for, or for the
   -- order of the findings

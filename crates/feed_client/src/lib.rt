@@ -18,7 +18,8 @@
 //! | Line of the output | Where |
 //! |---|---|
 //! | `pulled N` | the record of N operations is pulled, and the input is read from now on |
-//! | `ask N` | change N has to be queried |
+//! | `ask N` | change N has to be queried: for an event of it, or since a whole answer doesn't list it |
+//! | `need N` | change N has to be queried: for a line of another change |
 //!
 //! An example of its use:
 //!

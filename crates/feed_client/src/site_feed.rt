@@ -2,7 +2,7 @@
 
 ghost use Rattle.std.specs.Prelude.{◌≡◌, ◌++◌, IfOk, OnOk, string_bytes};
 ghost use Rattle.feed_client.specs.Meeting.{place_at};
-ghost use Rattle.feed_client.specs.Taking.{FeedsSite, ask_line, ask_lines, seen_at};
+ghost use Rattle.feed_client.specs.Taking.{FeedsSite, ask_line, asked_line, asked_lines, is_event_of, seen_at};
 
 use super::intake::Intake;
 use super::meet::meet_all;
@@ -11,14 +11,14 @@ use byte_ends::{Drain, Source};
 use event_feed::{FeedFault, Input, Taker, feed_lines, send};
 use event_filter::{against_first, asked};
 use footer_text::Bases;
-use gerrit_events::{ParsedLine, Projects};
+use gerrit_events::{ParsedLine, Part, Projects};
 use lattice_core::NoMemory;
 use state_core::State;
 use std::alloc::Global;
 use std::collections::BTreeSet;
 
 /// A feed of a site: the bases of footers, the state that it keeps of the site's record, the site, the output for `ask`
-/// lines, and standard error.
+/// and `need` lines, and standard error.
 #[derive(Drop)]
 pub struct SiteFeed<T: Intake, O: Drain, E: Drain> {
     pub alloc: Global,
@@ -57,7 +57,7 @@ impl<T: Intake, O: Drain, E: Drain> Taker for SiteFeed<T, O, E> {
         let Ok(asked) = asked(self.alloc, &self.state, self.bases.as_ref(), &parsed) else {
             return Err(FeedFault::NoMemory);
         };
-        let Ok(text) = ask_lines(self.alloc, &asked) else {
+        let Ok(text) = asked_lines(self.alloc, parsed.part, &asked) else {
             return Err(FeedFault::NoMemory);
         };
         let Ok(findings) = against_first(self.alloc, parsed.findings) else {
@@ -80,13 +80,14 @@ impl<T: Intake, O: Drain, E: Drain> Taker for SiteFeed<T, O, E> {
 /// Reads the lines of a source, as `event_feed::feed_lines` does, and offers the bodies of each to a site, votes below
 /// 0 first and then all in order, except what the state says already. What the site takes in is taken into the state,
 /// too, and so is, before more of the source is read, what others brought to the site. The changes that have to be
-/// queried because of a line are written to the output before its bodies are offered, as `ask N` lines, by number. A
-/// loss of line n, counted from 1, is reported on standard error: by the line itself (`reviewgate: events 1 BadEvent n
-/// KEY`, `reviewgate: events 2 Dropped n`), for the record (`reviewgate: events 1 BadEvent n status`: an abandon or a
-/// restore of a change that is merged) or by the site (`reviewgate: events 6 Refused n NUMBER NAME`). Refusals: those
-/// of `feed_lines`; 4 `WriteFault`, an output failed; 5 `NoMemory`; 8 `Ended`, no answer came from the site; 12
-/// `NotAllowed`, the key of the connection may only read; 13 `NoEnd`, the site has more than it answers. It costs O(n)
-/// for n bytes that are read and written, and O(log m) for each body, for m changes, patch sets and votes of the state.
+/// queried because of a line are written to the output before its bodies are offered, by number: as `ask N` where the
+/// line is an event of change N, and as `need N` otherwise. A loss of line n, counted from 1, is reported on standard
+/// error: by the line itself (`reviewgate: events 1 BadEvent n KEY`, `reviewgate: events 2 Dropped n`), for the record
+/// (`reviewgate: events 1 BadEvent n status`: an abandon or a restore of a change that is merged) or by the site
+/// (`reviewgate: events 6 Refused n NUMBER NAME`). Refusals: those of `feed_lines`; 4 `WriteFault`, an output failed; 5
+/// `NoMemory`; 8 `Ended`, no answer came from the site; 12 `NotAllowed`, the key of the connection may only read; 13
+/// `NoEnd`, the site has more than it answers. It costs O(n) for n bytes that are read and written, and O(log m) for
+/// each body, for m changes, patch sets and votes of the state.
 pub fn feed_site<S: Source, T: Intake, O: Drain, E: Drain>(
     alloc: Global,
     input: Input,
@@ -103,15 +104,36 @@ pub fn feed_site<S: Source, T: Intake, O: Drain, E: Drain>(
     feed_lines(alloc, input, projects, source, feed)
 }
 
-/// The lines that ask for changes.
-fn ask_lines(alloc: Global, changes: &BTreeSet<u32>) -> Result<String, NoMemory>
-    ensures { IfOk result (λ text. string_bytes text ≡ ask_lines changes.now.keys) }
+/// The lines that ask for changes where a line is met.
+fn asked_lines(alloc: Global, part: Part, changes: &BTreeSet<u32>) -> Result<String, NoMemory>
+    ensures { IfOk result (λ text. string_bytes text ≡ asked_lines part changes.now.keys) }
 {
     let mut text = String::new(alloc);
     for change in changes {
-        add_ask(&mut text, *change)?;
+        add_asked(&mut text, part, *change)?;
     }
     Ok(text)
+}
+
+/// Adds the line that asks for a change where a line is met: `need` says that the line isn't an event of the change.
+fn add_asked(text: &mut String, part: Part, change: u32) -> Result<(), NoMemory>
+    ensures { OnOk result (string_bytes text.new ≡ string_bytes text.old ++ asked_line part change) }
+{
+    if is_event_of(part, change) {
+        return add_ask(text, change);
+    }
+    write!(text, "need {change}\n")?;
+    Ok(())
+}
+
+/// Whether the line is an event of a change.
+fn is_event_of(part: Part, change: u32) -> bool
+    ensures { result ≡ is_event_of part change }
+{
+    match part {
+        Part::Event(Some(number)) => number == change,
+        _ => false,
+    }
 }
 
 /// Adds the line that asks for a change.

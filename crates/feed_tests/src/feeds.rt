@@ -301,7 +301,7 @@ fn what_is_unknown_is_asked_for(rt: HostRuntime) -> Result<(), Fail> {
     let mut feed = taking_feed(rt.alloc());
     feed.bases = Some(Bases::new(rt.alloc(), &["https://r/"])?);
     let wanted = Wanted {
-        asks: "ask 3\nask 4\n",
+        asks: "need 3\nneed 4\n",
         reports: "",
         ended: Ok(()),
     };
@@ -315,7 +315,7 @@ fn assert_completed(rt: &(impl Abort + AllocGlobal), lines: &str, wanted: Wanted
     let alloc = rt.alloc();
     let mut feed = taking_feed(alloc);
     let known = Wanted {
-        asks: "ask 3\n",
+        asks: "need 3\n",
         reports: "",
         ended: Ok(()),
     };
@@ -336,7 +336,7 @@ fn assert_completed(rt: &(impl Abort + AllocGlobal), lines: &str, wanted: Wanted
 fn what_an_answer_lacks_is_abandoned(rt: HostRuntime) {
     for (lines, asks, count) in [
         ("{\"type\":\"stats\"}\n", "ask 9\n", 1u64),
-        (NEEDY, "ask 3\n", 0),
+        (NEEDY, "need 3\n", 0),
     ] {
         let wanted = Wanted {
             asks,
