@@ -8,13 +8,13 @@ use std::alloc::Global;
 use std::sync::Arc;
 
 /// A gate that wants a workflow vote.
-const GATE: &[u8] =
-    br#"{"bases":["https://review.example.org/"],"require":{"gerrit":{"approval":[{"Workflow":1}]}}}"#;
+pub(super) const GATE: &str =
+    r#"{"bases":["https://review.example.org/"],"require":{"gerrit":{"approval":[{"Workflow":1}]}}}"#;
 
 /// A site under start 1, empty, with one worker and one session.
 pub fn one_session(alloc: Global, site: u16) -> Result<Setup<'static>, GateFault> {
     Ok(Setup {
-        gate: Gate::read(alloc, GATE)?,
+        gate: Gate::read(alloc, GATE.as_bytes())?,
         reloads: Arc::new(alloc, Reloads::new()).map_err(|_| GateFault::NoMemory)?,
         replica: Replica::new(alloc),
         site,

@@ -48,7 +48,7 @@ where
         if let Ok(answers) = talk(rt, alloc, port, lines) {
             return Ok(answers);
         }
-        let _ = thread::sleep(rt, Duration::from_millis(10));
+        thread::sleep(rt, Duration::from_millis(10));
     }
     talk(rt, alloc, port, lines)
 }
