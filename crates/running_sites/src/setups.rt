@@ -2,7 +2,6 @@
 
 use gate_rules::{Gate, GateFault};
 use replica_core::Replica;
-use site_address::{Address, PeerAddress};
 use site_serve::{Prints, Reloads, Setup};
 use std::alloc::Global;
 use std::sync::Arc;
@@ -30,15 +29,4 @@ pub fn one_session(alloc: Global, site: u16) -> Result<Setup<'static>, GateFault
         prints: Prints::Report,
         page: None,
     })
-}
-
-/// A site without end, that pulls from these ports.
-pub fn pulling(alloc: Global, site: u16, peers: &[u16]) -> Result<Setup<'static>, GateFault> {
-    let mut setup = one_session(alloc, site)?;
-    setup.sessions = 0;
-    for port in peers {
-        let peer = PeerAddress::Here(Address::Port(*port));
-        setup.peers.push(peer).map_err(|_| GateFault::NoMemory)?;
-    }
-    Ok(setup)
 }

@@ -60,10 +60,3 @@ pub fn text_of(answers: &io::Result<String>) -> &str {
         Err(_) => "no answer",
     }
 }
-
-/// Connects as a client that sends so much and then nothing.
-pub fn stall<R: Net<Stream = TcpStream>>(rt: &R, port: u16, lines: &str) -> io::Result<TcpStream> {
-    let mut stream = TcpStream::connect(rt, ("127.0.0.1", port))?;
-    stream.write_all(lines.as_bytes())?;
-    Ok(stream)
-}
