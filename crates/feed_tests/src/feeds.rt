@@ -1,5 +1,6 @@
 //! Feeds of sites that answer by a script, in this process or over sockets of this machine.
 
+use super::asserts::assert_found;
 use byte_ends::{Broken, Drain, Ends};
 use event_feed::{FeedFault, Input};
 use feed_client::{
@@ -11,11 +12,11 @@ use gerrit_events::Projects;
 use op_text::{read_op, write_body};
 use replica_core::Missing;
 use review_ops::{Body, Op, Stamp};
-use running_sites::listening;
+use running_sites::{AS_WRITTEN, NO_KEYS, Stage, listening};
 use site_address::{Address, HostPort};
 use state_core::State;
 use std::alloc::Global;
-use std::io::{Read, Write};
+use std::io::Read;
 use std::net::{Net, TcpListener, TcpStream};
 use std::process::Abort;
 use std::random::RandomSource;
@@ -152,9 +153,13 @@ fn assert_ended(
     ended: Result<(), FeedFault>,
     wanted: Wanted,
 ) {
-    assert_eq!(rt; ended, wanted.ended);
-    assert_eq!(rt; feed.output.get_ref().as_slice(), wanted.asks.as_bytes());
-    assert_eq!(rt; feed.errors.get_ref().as_slice(), wanted.reports.as_bytes());
+    assert_found(rt, ended, wanted.ended);
+    assert_found(rt, feed.output.get_ref().as_slice(), wanted.asks.as_bytes());
+    assert_found(
+        rt,
+        feed.errors.get_ref().as_slice(),
+        wanted.reports.as_bytes(),
+    );
     feed.output = Ends::new(Vec::new(rt.alloc()));
     feed.errors = Ends::new(Vec::new(rt.alloc()));
 }
@@ -181,10 +186,10 @@ fn what_is_new_is_sent_once(rt: HostRuntime) {
         ended: Ok(()),
     };
     assert_feed(&rt, &mut feed, EVENTS, wanted);
-    assert_eq!(rt; feed.site.offered.as_str(), BODIES);
+    assert_found(&rt, feed.site.offered.as_str(), BODIES);
     let again = Wanted { asks: "", ..wanted };
     assert_feed(&rt, &mut feed, EVENTS, again);
-    assert_eq!(rt; feed.site.count, 4);
+    assert_found(&rt, feed.site.count, 4);
 }
 
 #[test]
@@ -197,14 +202,14 @@ fn what_the_site_refuses_is_reported(rt: HostRuntime) {
         ended: Ok(()),
     };
     assert_feed(&rt, &mut feed, EVENTS, wanted);
-    assert_eq!(rt; feed.site.count, 4);
+    assert_found(&rt, feed.site.count, 4);
     let again = Wanted {
         asks: "",
         reports: BAD_LINE,
         ended: Ok(()),
     };
     assert_feed(&rt, &mut feed, EVENTS, again);
-    assert_eq!(rt; feed.site.count, 5);
+    assert_found(&rt, feed.site.count, 5);
 }
 
 #[test]
@@ -220,7 +225,7 @@ fn a_feed_ends_where_no_answer_comes(rt: HostRuntime) {
             ended: Err(fault),
         };
         assert_feed(&rt, &mut feed, EVENTS, wanted);
-        assert_eq!(rt; feed.site.count, 2);
+        assert_found(&rt, feed.site.count, 2);
     }
 }
 
@@ -240,7 +245,7 @@ fn a_feed_ends_where_events_were_dropped(rt: HostRuntime) {
         ended: Ok(()),
     };
     assert_feed(&rt, &mut feed, "{", rest);
-    assert_eq!(rt; feed.site.count, 0);
+    assert_found(&rt, feed.site.count, 0);
 }
 
 /// A merged change, that is abandoned and restored afterwards.
@@ -262,9 +267,10 @@ fn a_merged_change_is_neither_abandoned_nor_restored(rt: HostRuntime) {
         ended: Ok(()),
     };
     assert_feed(&rt, &mut feed, AFTER_ITS_MERGE, wanted);
-    assert_eq!(rt;
+    assert_found(
+        &rt,
         feed.site.offered.as_str(),
-        "{\"change\":7,\"op\":\"merged\"}\n"
+        "{\"change\":7,\"op\":\"merged\"}\n",
     );
 }
 
@@ -282,7 +288,7 @@ fn what_others_bring_is_not_sent(rt: HostRuntime) -> Result<(), Fail> {
     };
     let line = "{\"type\":\"change-merged\",\"change\":{\"number\":7}}\n";
     assert_feed(&rt, &mut feed, line, wanted);
-    assert_eq!(rt; feed.site.count, 0);
+    assert_found(&rt, feed.site.count, 0);
     Ok(())
 }
 
@@ -328,7 +334,7 @@ fn assert_completed(rt: &(impl Abort + AllocGlobal), lines: &str, wanted: Wanted
     let mut source = Ends::new(lines.as_bytes());
     let ended = complete_site(alloc, &Projects::all(), &mut source, &mut listing);
     assert_ended(rt, &mut listing.feed, ended, wanted);
-    assert_eq!(rt; listing.feed.site.count.wrapping_sub(before), count);
+    assert_found(rt, listing.feed.site.count.wrapping_sub(before), count);
 }
 
 /// Change 9 is asked for and abandoned where a whole answer doesn't list it, and each line of the answer was read.
@@ -402,17 +408,20 @@ fn ends_that_fail_end_the_feed(rt: HostRuntime) {
     let alloc = rt.alloc();
     let text = || Ends::new(Vec::<u8>::new(alloc));
     let broken = || Broken::at_call(Ends::new(Vec::<u8>::new(alloc)), 1);
-    assert_eq!(rt;
+    assert_found(
+        &rt,
         ended_with(alloc, true, text(), text()),
-        Err(FeedFault::ReadFault)
+        Err(FeedFault::ReadFault),
     );
-    assert_eq!(rt;
+    assert_found(
+        &rt,
         ended_with(alloc, false, broken(), text()),
-        Err(FeedFault::WriteFault)
+        Err(FeedFault::WriteFault),
     );
-    assert_eq!(rt;
+    assert_found(
+        &rt,
         ended_with(alloc, false, text(), broken()),
-        Err(FeedFault::WriteFault)
+        Err(FeedFault::WriteFault),
     );
 }
 
@@ -440,15 +449,25 @@ const ANSWERS: [(&str, IntakeFault); 16] = [
 fn answers_are_read(rt: HostRuntime) -> Result<(), Fail> {
     let stamp = Stamp::new(18446744073709551615, 65535, 4294967295, 1).ok_or("stamp")?;
     let line = b"ok 18446744073709551615,65535,4294967295,1";
-    assert_eq!(rt; read_answer(rt.alloc(), line), Ok(stamp));
+    assert_found(&rt, read_answer(rt.alloc(), line), Ok(stamp));
     for (line, fault) in ANSWERS {
-        assert_eq!(rt; read_answer(rt.alloc(), line.as_bytes()), Err(fault));
+        assert_found(&rt, read_answer(rt.alloc(), line.as_bytes()), Err(fault));
     }
     Ok(())
 }
 
 /// How a feed of a site ended, what it said on its output, and what was reported.
 pub type Ending = (Result<(), FeedFault>, Vec<u8>, Vec<u8>);
+
+/// How a feed ended, and whether it said and reported just what is wanted.
+pub type Fed = (Result<(), FeedFault>, bool, bool);
+
+/// How a feed went, of which this is to be said, and that reported.
+pub fn went(fed: Ending, said: &str, reported: &str) -> Fed {
+    let (ended, output, errors) = fed;
+    let is_said = output.as_slice() == said.as_bytes();
+    (ended, is_said, errors.as_slice() == reported.as_bytes())
+}
 
 /// Feeds an input to the site at a port.
 pub fn feed_from<R, I>(rt: R, alloc: Global, port: u16, feeds: Feeds, input: I) -> Ending
@@ -498,88 +517,76 @@ where
     feed_from(rt, alloc, port, Feeds::Stream, EVENTS.as_bytes())
 }
 
-/// Reads up to the end of a line.
-fn read_line(session: &mut TcpStream) -> io::Result<()> {
-    let mut byte = [0u8; 1];
-    for _ in 0..4096 {
-        if session.read(&mut byte)? == 0 || byte[0] == b'\n' {
-            break;
-        }
-    }
-    Ok(())
-}
-
 /// A site with nothing, whose record is pulled.
-fn answer_pull(listener: &TcpListener) -> io::Result<TcpStream> {
-    let (mut session, _address) = listener.accept()?;
-    read_line(&mut session)?;
-    session.write_all(b"hello 2\n")?;
-    read_line(&mut session)?;
-    session.write_all(b"done\n")?;
-    Ok(session)
-}
+const PULLED: &str = r#"
+gone accepts
+gone < hello 2
+gone > hello 2
+gone < front []
+gone > done
+"#;
 
-/// A site with nothing, which answers so that Gerrit was heard, and this to the first body, and then goes.
-fn go_away(listener: TcpListener, heard: &str, answer: &str) -> io::Result<()> {
-    let mut session = answer_pull(&listener)?;
-    read_line(&mut session)?;
-    session.write_all(heard.as_bytes())?;
-    read_line(&mut session)?;
-    session.write_all(answer.as_bytes())
-}
-
-/// How a feed of the events ends whose site goes with these answers.
-fn feed_that_ends<R>(rt: R, heard: &str, answer: &str) -> io::Result<Ending>
+/// How a feed goes whose site goes so once its record is pulled, which is to say this and report nothing; and whether all
+/// went as it is written.
+fn feed_beside<R, I>(rt: R, feeds: Feeds, input: I, goes: &str, said: &str) -> Option<(Fed, bool)>
 where
-    R: Clock + Net<Listener = TcpListener, Stream = TcpStream> + Threads + Wait + RandomSource,
-    R: AllocGlobal + Copy + Send + Sync + 'static,
+    R: Net<Listener = TcpListener, Stream = TcpStream> + Threads + Wait + Clock,
+    R: RandomSource + AllocGlobal + Copy + Send + Sync + 'static,
+    I: Read + Send + Drop + 'static,
 {
-    let (listener, port) = listening(&rt)?;
-    let (gone, fed) = thread::join(
-        &rt,
-        || go_away(listener, heard, answer),
-        || feed(rt, rt.alloc(), port),
-    );
-    gone?;
-    Ok(fed)
+    let mut stage = Stage::new(rt, rt.alloc(), NO_KEYS);
+    let mut is_well = stage.play("peer gone").as_str() == AS_WRITTEN;
+    let port = stage.port("gone")?;
+    let fed = thread::spawn(&rt, move || feed_from(rt, rt.alloc(), port, feeds, input)).ok()?;
+    is_well &= stage.play(PULLED).as_str() == AS_WRITTEN;
+    is_well &= stage.play(goes).as_str() == AS_WRITTEN;
+    drop(stage);
+    Some((went(fed.join(&rt), said, ""), is_well))
 }
+
+/// Sites that note that Gerrit was heard or don't know of that, and answer so to the first body, and then go.
+const GOES: [&str; 5] = [
+    "gone hears a line\ngone > noted\ngone hears a line\ngone leaves",
+    "gone hears a line\ngone > noted\ngone hears a line\ngone > what\ngone leaves",
+    "gone hears a line\ngone > noted\ngone hears a line\ngone + ok 1,2,3,\ngone leaves",
+    "gone hears a line\ngone > noted\ngone hears a line\ngone > no 11 Else\ngone leaves",
+    "gone hears a line\ngone > no 6 BadCommand\ngone hears a line\ngone > no 11 Else\ngone leaves",
+];
 
 #[test]
-fn the_end_of_a_site_ends_the_feed(rt: HostRuntime) -> Result<(), Fail> {
-    for (heard, answer) in [
-        ("noted\n", ""),
-        ("noted\n", "what\n"),
-        ("noted\n", "ok 1,2,3,"),
-        ("noted\n", "no 11 Else\n"),
-        ("no 6 BadCommand\n", "no 11 Else\n"),
-    ] {
-        let (ended, output, errors) = feed_that_ends(rt, heard, answer)?;
-        assert_eq!(rt; ended, Err(FeedFault::Ended));
-        assert_eq!(rt; output.as_slice(), b"pulled 0\nask 7\n".as_slice());
-        assert!(rt; errors.is_empty());
+fn the_end_of_a_site_ends_the_feed(rt: HostRuntime) {
+    let ended = (Err(FeedFault::Ended), true, true);
+    for goes in GOES {
+        let found = feed_beside(
+            rt,
+            Feeds::Stream,
+            EVENTS.as_bytes(),
+            goes,
+            "pulled 0\nask 7\n",
+        );
+        assert_found(&rt, found, Some((ended, true)));
     }
-    Ok(())
 }
 
 /// A site that answers anything else where it should note that Gerrit was heard is none.
 #[test]
-fn a_site_notes_that_gerrit_was_heard(rt: HostRuntime) -> Result<(), Fail> {
-    for heard in ["ok 1,2,3,4\n", "no 7 BadText\n"] {
-        let (ended, output, _errors) = feed_that_ends(rt, heard, "")?;
-        assert_eq!(rt; ended, Err(FeedFault::Ended));
-        assert_eq!(rt; output.as_slice(), b"pulled 0\n".as_slice());
+fn a_site_notes_that_gerrit_was_heard(rt: HostRuntime) {
+    let ended = (Err(FeedFault::Ended), true, true);
+    for goes in [
+        "gone hears a line\ngone > ok 1,2,3,4\ngone leaves",
+        "gone hears a line\ngone > no 7 BadText\ngone leaves",
+    ] {
+        let found = feed_beside(rt, Feeds::Stream, EVENTS.as_bytes(), goes, "pulled 0\n");
+        assert_found(&rt, found, Some((ended, true)));
     }
-    Ok(())
 }
 
 #[test]
 fn a_port_without_a_site_is_refused(rt: HostRuntime) -> Result<(), Fail> {
     let (listener, port) = listening(&rt)?;
     drop(listener);
-    let (ended, output, errors) = feed(rt, rt.alloc(), port);
-    assert_eq!(rt; ended, Err(FeedFault::NoSite));
-    assert!(rt; output.is_empty());
-    assert!(rt; errors.is_empty());
+    let fed = feed(rt, rt.alloc(), port);
+    assert_found(&rt, went(fed, "", ""), (Err(FeedFault::NoSite), true, true));
     Ok(())
 }
 
@@ -594,27 +601,15 @@ where
     Ok((sender, input))
 }
 
-/// A site that ends its session once its record was pulled.
-fn end_after_pull(listener: TcpListener) -> io::Result<()> {
-    drop(answer_pull(&listener)?);
-    Ok(())
-}
-
 /// Where the session ends while the input is silent the feed does, also one of a query.
 #[test]
 fn a_feed_sees_the_end_of_its_session(rt: HostRuntime) -> Result<(), Fail> {
+    let ended = (Err(FeedFault::Ended), true, true);
     for feeds in [Feeds::Stream, Feeds::Query, Feeds::Complete] {
-        let (listener, port) = listening(&rt)?;
         let (sender, input) = silent_input(&rt)?;
-        let (gone, (ended, output, _errors)) = thread::join(
-            &rt,
-            || end_after_pull(listener),
-            || feed_from(rt, rt.alloc(), port, feeds, input),
-        );
-        gone?;
+        let found = feed_beside(rt, feeds, input, "gone leaves", "pulled 0\n");
         drop(sender);
-        assert_eq!(rt; ended, Err(FeedFault::Ended));
-        assert_eq!(rt; output.as_slice(), b"pulled 0\n".as_slice());
+        assert_found(&rt, found, Some((ended, true)));
     }
     Ok(())
 }

@@ -1,14 +1,17 @@
 //! Keys that are withdrawn, or given another role, while a session goes on that they let in.
 
-use super::sealed::{SystemHost, keyed, run_sealed};
+use super::asserts::{assert_found, assert_part};
 use byte_ends::{Ends, Source, read_all, write_all};
-use running_sites::{FEEDER, listening, make_keys};
+use key_files::KeyReader;
+use running_sites::{FEEDER, FileKeys, Stage, make_keys, text_of};
 use sealed_link::dialed;
 use std::alloc::Global;
 use std::net::{Net, Shutdown, TcpListener, TcpStream};
+use std::process::Abort;
+use std::random::RandomSource;
 use std::rt::Files;
 use std::sync::Wait;
-use std::test::Fail;
+use std::thread::Threads;
 use std::time::{Clock, Duration};
 use std::{fs, io, thread};
 
@@ -68,36 +71,46 @@ where
     Ok(String::from_utf8(answers).unwrap_or(String::new(alloc)))
 }
 
+const A_SEALED_SITE: &str = r#"
+site 1
+site 1 is sealed
+site 1 sessions 1
+start 1
+"#;
+
+/// Whether a session of the feeder, whose keys become these, is answered so, where the site goes as these parts of a play
+/// say.
+fn assert_across<R, L>(rt: R, reader: L, keys: &str, wanted: &str, reported: &str)
+where
+    R: Net<Listener = TcpListener, Stream = TcpStream> + Threads + Wait + Clock + Abort,
+    R: Files + RandomSource + AllocGlobal + Copy + Send + Sync + 'static,
+    L: KeyReader + Copy + Send + Sync + 'static,
+{
+    let is_made = make_keys(&rt, "withdrawn.tmp", 0o600).is_ok();
+    let mut stage = Stage::new(rt, rt.alloc(), (reader, "withdrawn.tmp"));
+    assert_part(&rt, &mut stage, A_SEALED_SITE);
+    let port = stage.port("1").unwrap_or(0);
+    let answers = feed_across(&rt, rt.alloc(), port, "withdrawn.tmp", keys);
+    assert_found(&rt, (is_made, text_of(&answers)), (true, wanted));
+    assert_part(&rt, &mut stage, reported);
+}
+
 /// A session whose key is withdrawn is answered nothing more, has nothing taken in, and is reported. One whose key may
 /// only read from then on is shown all, and has nothing taken in.
 #[test]
-fn a_key_that_is_withdrawn_ends_its_session(rt: HostRuntime) -> Result<(), Fail> {
-    let alloc = rt.alloc();
-    let rows = [
-        (
-            WITHDRAWN,
-            "hello 2\nok 1,1,1,1\n",
-            "reviewgate: session 11 NoKey 1\n",
-        ),
-        (
-            READS,
-            "hello 2\nok 1,1,1,1\nno 11 NotAllowed\nend 0 0\nbye\n",
-            "",
-        ),
-    ];
-    for (keys, wanted, reported) in rows {
-        make_keys(&rt, "withdrawn.tmp", 0o600)?;
-        let (listener, port) = listening(&rt)?;
-        let setup = keyed(alloc, 1, 1, "withdrawn.tmp")?;
-        let (ran, answers) = thread::join(
-            &rt,
-            || run_sealed(&rt, alloc, listener, setup, &SystemHost::new(rt)),
-            || feed_across(&rt, alloc, port, "withdrawn.tmp", keys),
-        );
-        let (count, errors) = ran?;
-        assert_eq!(rt; answers?.as_str(), wanted);
-        assert_eq!(rt; (count, errors.as_str()), (1, reported));
-    }
-    fs::remove_file(&rt, "withdrawn.tmp")?;
-    Ok(())
+fn a_key_that_is_withdrawn_ends_its_session(rt: HostRuntime) {
+    let (ended, reported) = (
+        "site 1 ends with 1 operation\nsite 1 reports nothing more",
+        "site 1 ends with 1 operation\nsite 1 reports reviewgate: session 11 NoKey 1\nsite 1 reports nothing more",
+    );
+    assert_across(
+        rt,
+        FileKeys(rt),
+        WITHDRAWN,
+        "hello 2\nok 1,1,1,1\n",
+        reported,
+    );
+    let answers = "hello 2\nok 1,1,1,1\nno 11 NotAllowed\nend 0 0\nbye\n";
+    assert_across(rt, FileKeys(rt), READS, answers, ended);
+    assert_found(&rt, fs::remove_file(&rt, "withdrawn.tmp").is_ok(), true);
 }

@@ -1,6 +1,6 @@
 //! Peers that send operations which would poison a record: they are refused, and the site goes on.
 
-use super::asserts::assert_found;
+use super::asserts::{assert_found, assert_played};
 use super::programs::{
     BARE, GATE, UNTIL_INPUT_ENDS, Way, Words, free_port, is_removed, is_written, serve_with,
 };
@@ -9,12 +9,8 @@ use byte_ends::Ends;
 use console::Named;
 use key_files::NoKeys;
 use record_pull::SystemFiles;
-use running_sites::{
-    NoHooks, PASS_ON, PASSED, TAKE, ending, listening, pulling, run_one, talk, talk_once_up,
-    text_of, watched_end,
-};
-use site_net::Stop;
-use site_serve::{ServeFault, Setup, serve_run};
+use running_sites::{PASS_ON, PASSED, TAKE, listening, talk_once_up, text_of, watched_end};
+use site_serve::ServeFault;
 use std::alloc::Global;
 use std::fs::File;
 use std::io::{Print, Write};
@@ -23,11 +19,8 @@ use std::random::RandomSource;
 use std::rt::Files;
 use std::sync::Wait;
 use std::thread::Threads;
-use std::time::{Clock, Duration};
+use std::time::Clock;
 use std::{io, thread};
-
-/// How a site ended: how many operations it had, whether all reports were written, and whether its start was taken.
-type Ending = Option<(usize, bool, bool)>;
 
 /// The answer of a peer that hands over an operation under the last time that there is, which would spend every clock.
 const LAST_TIME: &str =
@@ -37,10 +30,6 @@ const LAST_TIME: &str =
 const LAST_START: &str =
     "hello 2\nop {\"change\":7,\"op\":\"merged\",\"seq\":1,\"site\":1,\"start\":4294967295,\"time\":1}\ndone\n";
 
-/// The answer of one that hands over an operation of site 3.
-const OF_3: &str =
-    "hello 2\nop {\"change\":7,\"op\":\"merged\",\"seq\":1,\"site\":3,\"start\":1,\"time\":1}\ndone\n";
-
 /// Answers the first pull at a listener so, and waits until the site that pulled leaves: what that asked.
 fn hand_over(alloc: Global, listener: &TcpListener, answer: &str) -> io::Result<String> {
     let (stream, _address) = listener.accept()?;
@@ -49,139 +38,110 @@ fn hand_over(alloc: Global, listener: &TcpListener, answer: &str) -> io::Result<
     io::read_to_string(alloc, stream)
 }
 
-/// Site 2, which takes in operations of these sites, and pulls from the peer at a port.
-fn listing(alloc: Global, sites: &[u16], peer: u16) -> Option<Setup<'static>> {
-    let sites = sites.to_vec(alloc).ok()?;
-    let mut setup = pulling(alloc, 2, &[peer]).ok()?;
-    setup.sites = sites;
-    Some(setup)
-}
-
-/// How that site ends, which writes its errors there.
-fn run_listing<R>(
-    rt: &R,
-    alloc: Global,
-    listener: TcpListener,
-    setup: Option<Setup<'static>>,
-    stop: &Stop,
-    errors: &mut Ends<Vec<u8>>,
-) -> Ending
-where
-    R: Net<Listener = TcpListener, Stream = TcpStream> + Threads + Wait + Clock + Sync,
-{
-    let output = Ends::new(Vec::new(alloc));
-    ending(serve_run(rt, alloc, listener, setup?, stop, output, errors, &NoHooks))
-}
-
-/// Answers the first pull of a site so, and then takes a merge in there: whether that is answered so. The site is then
-/// asked to stop.
-fn hand_over_and_take<R>(
-    rt: &R,
-    alloc: Global,
-    peer: &TcpListener,
-    answer: &str,
-    port: u16,
-    wanted: &str,
-    stop: &Stop,
-) -> bool
-where
-    R: Net<Listener = TcpListener, Stream = TcpStream> + Wait + Clock,
-{
-    let _handed = hand_over(alloc, peer, answer);
-    let is_answered = text_of(&talk(rt, alloc, port, TAKE)) == wanted;
-    // What is wrong with a pull isn't reported by a site that stops.
-    let _ = thread::sleep(rt, Duration::from_millis(300));
-    stop.ask(rt);
-    is_answered
-}
-
-/// What site 2 reports of a peer that answers its first pull, whether a client is then answered so that takes in a
-/// merge, and how the site ends.
-#[derive(Drop)]
-struct Pulled {
-    errors: Vec<u8>,
-    is_answered: bool,
-    ended: Ending,
-}
-
-/// Runs site 2, which takes in operations of these sites, beside such a peer, which is at the second port.
-fn run_pulled<R>(
-    rt: &R,
-    alloc: Global,
-    sites: &[u16],
-    peer: (&TcpListener, u16),
-    answer: &str,
-    wanted: &str,
-) -> Option<Pulled>
-where
-    R: Net<Listener = TcpListener, Stream = TcpStream> + Threads + Wait + Clock + Sync,
-{
-    let (listener, port) = listening(rt).ok()?;
-    let stop = Stop::new();
-    let mut errors = Ends::new(Vec::new(alloc));
-    let setup = listing(alloc, sites, peer.1);
-    let (ended, is_answered) = thread::join(
-        rt,
-        || run_listing(rt, alloc, listener, setup, &stop, &mut errors),
-        || hand_over_and_take(rt, alloc, peer.0, answer, port, wanted, &stop),
-    );
-    Some(Pulled {
-        errors: errors.into_inner(),
-        is_answered,
-        ended,
-    })
-}
-
-/// How site 2 ends beside a peer that answers its first pull so, whether it takes in a merge at its first time, and
-/// whether it begins with the report of that fault of the peer.
-fn refuses<R>(
-    rt: &R,
-    alloc: Global,
-    sites: &[u16],
-    answer: &str,
-    fault: &str,
-) -> Option<(Ending, bool, bool)>
-where
-    R: Net<Listener = TcpListener, Stream = TcpStream> + Threads + Wait + Clock + Sync,
-{
-    let (peer, port) = listening(rt).ok()?;
-    let line = format!(in alloc; "reviewgate: peer {fault} {port}\n").ok()?;
-    let wanted = "hello 2\nok 1,2,1,1\nbye\n";
-    let pulled = run_pulled(rt, alloc, sites, (&peer, port), answer, wanted)?;
-    let is_reported = pulled.errors.starts_with(line.as_bytes());
-    Some((pulled.ended, pulled.is_answered, is_reported))
-}
+const POISONS: &str = r#"
+# Under the last time that there is an operation would spend every clock.
+peer late
+site 2
+site 2 pulls late
+start 2
+late accepts
+late > hello 2<lf>op {"change":7,"op":"merged","seq":1,"site":3,"start":1,"time":18446744073709551615}<lf>done
+late < hello 2
+late < front []
+late is left
+ask 2
+> hello 2
+> take {"change":7,"op":"merged"}
+> quit
+< hello 2
+< ok 1,2,1,1
+< bye
+# What is wrong with a pull isn't reported by a site that stops.
+wait 300 ms
+stop 2
+site 2 ends with 1 operation
+site 2 reports reviewgate: peer 12 FarAhead <late>
+# Under the last start one of site 1 would leave that site none.
+peer last
+site 3
+site 3 number 2
+site 3 takes 1 3
+site 3 pulls last
+start 3
+last accepts
+last > hello 2<lf>op {"change":7,"op":"merged","seq":1,"site":1,"start":4294967295,"time":1}<lf>done
+last < hello 2
+last < front []
+last is left
+ask 3
+> hello 2
+> take {"change":7,"op":"merged"}
+> quit
+< hello 2
+< ok 1,2,1,1
+< bye
+wait 300 ms
+stop 3
+site 3 ends with 1 operation
+site 3 reports reviewgate: peer 12 FarAhead <last>
+# Site 3 isn't listed.
+peer third
+site 4
+site 4 number 2
+site 4 takes 1
+site 4 pulls third
+start 4
+third accepts
+third > hello 2<lf>op {"change":7,"op":"merged","seq":1,"site":3,"start":1,"time":1}<lf>done
+third < hello 2
+third < front []
+third is left
+ask 4
+> hello 2
+> take {"change":7,"op":"merged"}
+> quit
+< hello 2
+< ok 1,2,1,1
+< bye
+wait 300 ms
+stop 4
+site 4 ends with 1 operation
+site 4 reports reviewgate: peer 11 NotListed <third>
+"#;
 
 #[test]
 fn what_would_poison_a_record_is_refused_and_the_site_goes_on(rt: HostRuntime) {
-    let cases: [(&[u16], &str, &str); 3] = [
-        (&[], LAST_TIME, "12 FarAhead"),
-        (&[1, 3], LAST_START, "12 FarAhead"),
-        (&[1], OF_3, "11 NotListed"),
-    ];
-    for (sites, answer, fault) in cases {
-        let found = refuses(&rt, rt.alloc(), sites, answer, fault);
-        assert_found(&rt, found, Some((Some((1, true, false)), true, true)));
-    }
+    assert_played(rt, POISONS);
 }
 
-/// How site 2, which takes in operations of site 3, ends beside a peer that hands one over, whether it then takes in a
-/// merge at its second time, and whether it reports a fault of the peer first.
-fn lets_in<R>(rt: &R, alloc: Global) -> Option<(Ending, bool, bool)>
-where
-    R: Net<Listener = TcpListener, Stream = TcpStream> + Threads + Wait + Clock + Sync,
-{
-    let (peer, port) = listening(rt).ok()?;
-    let wanted = "hello 2\nok 2,2,1,1\nbye\n";
-    let pulled = run_pulled(rt, alloc, &[3], (&peer, port), OF_3, wanted)?;
-    let is_reported = pulled.errors.starts_with(b"reviewgate: peer 1");
-    Some((pulled.ended, pulled.is_answered, is_reported))
-}
+const A_LISTED_SITE: &str = r#"
+peer third
+site 2
+site 2 takes 3
+site 2 pulls third
+start 2
+third accepts
+third > hello 2<lf>op {"change":7,"op":"merged","seq":1,"site":3,"start":1,"time":1}<lf>done
+third < hello 2
+third < front []
+third < quit
+third is left
+ask 2
+> hello 2
+> take {"change":7,"op":"merged"}
+> quit
+< hello 2
+< ok 2,2,1,1
+< bye
+wait 300 ms
+stop 2
+site 2 ends with 2 operations
+site 2 reports nothing more
+"#;
 
 #[test]
 fn a_listed_site_is_let_in(rt: HostRuntime) {
-    let found = lets_in(&rt, rt.alloc());
-    assert_found(&rt, found, Some((Some((2, true, false)), true, false)));
+    assert_played(rt, A_LISTED_SITE);
 }
 
 /// Runs a site under a gate file on the input: how it ended, and what it reported.
@@ -339,64 +299,30 @@ fn a_clock_that_is_half_spent_is_reported(rt: HostRuntime) {
     assert_found(&rt, found, Some((Way::Well, true)));
 }
 
-/// The answer of a peer that hands over an operation of site 2 under start 7.
-const START_7: &str =
-    "hello 2\nop {\"change\":7,\"op\":\"merged\",\"seq\":1,\"site\":2,\"start\":7,\"time\":1}\ndone\n";
+const MADE_UP_STARTS: &str = r#"
+# The peers hand over an operation of site 2 under start 7.
+for 1 to 3 peer peer<n>
+for 1 to 3 site <n>
+for 1 to 3 site <n> number 2
+for 1 to 3 site <n> pulls peer<n>
+site 1 start 1
+site 2 start 7
+site 3 start 8
+start 1 2 3
+for 1 to 3 peer<n> accepts
+for 1 to 3 peer<n> > hello 2<lf>op {"change":7,"op":"merged","seq":1,"site":2,"start":7,"time":1}<lf>done
+for 1 to 3 peer<n> < hello 2
+# It asks for all; whether it says goodbye is its own business, since it ends.
+for 1 to 3 peer<n> is left after more than 8 bytes
+stop 1 2 3
+site 1 ends with 0 operations, its start taken
+site 2 ends with 0 operations, its start taken
+site 3 ends with 1 operation
+"#;
 
-/// Site 2 under this start, which pulls from the peer at a port.
-fn starting(alloc: Global, start: u32, peer: u16) -> Option<Setup<'static>> {
-    let mut setup = pulling(alloc, 2, &[peer]).ok()?;
-    setup.start = start;
-    Some(setup)
-}
-
-/// How that site ends.
-fn run_starting<R>(
-    rt: &R,
-    alloc: Global,
-    listener: TcpListener,
-    setup: Option<Setup<'static>>,
-    stop: &Stop,
-) -> Ending
-where
-    R: Net<Listener = TcpListener, Stream = TcpStream> + Threads + Wait + Clock + Sync,
-{
-    ending(run_one(rt, alloc, listener, setup?, stop, &NoHooks))
-}
-
-/// Answers the first pull of a site with that, and then asks it to stop: whether it pulled.
-fn hand_over_and_stop<R: Wait>(rt: &R, alloc: Global, peer: &TcpListener, stop: &Stop) -> bool {
-    let handed = hand_over(alloc, peer, START_7);
-    stop.ask(rt);
-    handed.is_ok()
-}
-
-/// How site 2 ends that begins under this start beside such a peer, once it has left the peer, and whether it pulled.
-fn begin_beside<R>(rt: &R, alloc: Global, start: u32) -> Option<(Ending, bool)>
-where
-    R: Net<Listener = TcpListener, Stream = TcpStream> + Threads + Wait + Clock + Sync,
-{
-    let (peer, peer_port) = listening(rt).ok()?;
-    let (listener, _port) = listening(rt).ok()?;
-    let stop = Stop::new();
-    let setup = starting(alloc, start, peer_port);
-    Some(thread::join(
-        rt,
-        || run_starting(rt, alloc, listener, setup, &stop),
-        || hand_over_and_stop(rt, alloc, &peer, &stop),
-    ))
-}
-
-// A site whose peer sends an operation with the site's number ends under that start and each smaller one, and goes on
-// under a greater one.
+/// A site whose peer sends an operation with the site's number ends under that start and each smaller one, and goes on
+/// under a greater one.
 #[test]
 fn a_site_goes_on_above_a_start_that_was_made_up(rt: HostRuntime) {
-    for (start, wanted) in [
-        (1, (0, true, true)),
-        (7, (0, true, true)),
-        (8, (1, true, false)),
-    ] {
-        let found = begin_beside(&rt, rt.alloc(), start);
-        assert_found(&rt, found, Some((Some(wanted), true)));
-    }
+    assert_played(rt, MADE_UP_STARTS);
 }

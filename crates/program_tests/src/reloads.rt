@@ -1,22 +1,16 @@
 //! Gates that are put in force while a site runs.
 
-use super::asserts::assert_found;
+use super::asserts::{assert_found, assert_part, assert_played};
 use super::programs::{
     UNTIL_INPUT_ENDS, Way, Words, free_port, is_removed, is_written, serve_with,
 };
-use super::shown::{Ending, ITEMS, shown};
+use super::shown::ITEMS;
 use byte_ends::Ends;
 use console::Named;
-use gate_rules::Gate;
 use jiff::Timestamp;
 use key_files::NoKeys;
 use record_pull::SystemFiles;
-use running_sites::{
-    NoHooks, Shared, Written, ending, listening, one_session, run_one, talk, talk_once_up, text_of,
-    watched_end,
-};
-use site_net::Stop;
-use site_serve::{Prints, Reloads, Setup, serve_run};
+use running_sites::{NO_KEYS, Shared, Stage, Written, talk, talk_once_up, text_of, watched_end};
 use std::alloc::Global;
 use std::fs::File;
 use std::io::{Print, Read};
@@ -49,128 +43,106 @@ const WAITS: &str = "hello 2\nout 101,1 require approval 1\nend 0 1\nbye\n";
 
 const IS_READY: &str = "hello 2\nready 101,1\nend 1 0\nbye\n";
 
-/// Waits until what was written is just this, for ten seconds at most: whether it is.
-fn await_text<R: Wait + Clock>(rt: &R, written: &Written, text: &str) -> bool {
-    for _ in 0..10_000 {
-        if written.lock(rt).as_slice() == text.as_bytes() {
-            return true;
-        }
-        let _ = thread::sleep(rt, Duration::from_millis(1));
-    }
-    false
-}
-
-/// A gate, where it is one and memory suffices for it.
-fn gate_of(alloc: Global, text: &[u8]) -> Option<Gate> {
-    Gate::read(alloc, text).ok()
-}
-
-/// Puts a gate in force: whether it was.
-fn is_put<R: Wait>(rt: &R, alloc: Global, reloads: &Reloads, text: &[u8]) -> bool {
-    match gate_of(alloc, text) {
-        Some(gate) => reloads.put(rt, alloc, gate).is_ok(),
-        None => false,
-    }
-}
-
-/// The gates that are put in force at a site.
-fn no_reloads(alloc: Global) -> Option<Arc<Reloads, Global>> {
-    Arc::new(alloc, Reloads::new()).ok()
-}
-
-/// A site without end that prints what changes, under a gate that wants a vote and then those that are put in force.
-fn reloading(alloc: Global, reloads: &Arc<Reloads, Global>) -> Option<Setup<'static>> {
-    let gate = gate_of(alloc, STRICT)?;
-    let reloads = Arc::try_clone(reloads).ok()?;
-    let mut setup = one_session(alloc, 1).ok()?;
-    setup.gate = gate;
-    setup.reloads = reloads;
-    setup.sessions = 0;
-    setup.prints = Prints::Changes;
-    Some(setup)
-}
-
-/// What the site prints at first, once it took a patch set, and under the gate that wants nothing.
-const GROUPS: [&str; 3] = [
-    "",
-    "out 101,1 require approval 1\nend 0 1\n",
-    "out 101,1 require approval 1\nend 0 1\n+ready 101,1\nend 1 0\n",
-];
-
-/// Takes a patch set in, puts the other gate in force once the first group is printed, and then asks the site to stop:
-/// whether each group was printed in turn.
-fn reload_between<R>(
-    rt: &R,
-    alloc: Global,
-    port: u16,
-    written: &Written,
-    reloads: &Reloads,
-    stop: &Stop,
-) -> bool
-where
-    R: Net<Listener = TcpListener, Stream = TcpStream> + Wait + Clock,
-{
-    let mut is_well = talk(rt, alloc, port, TAKE_PATCH).is_ok();
-    is_well &= await_text(rt, written, GROUPS[1]);
-    is_well &= is_put(rt, alloc, reloads, FREE);
-    is_well &= await_text(rt, written, GROUPS[2]);
-    stop.ask(rt);
-    is_well
-}
-
-/// How such a site ends that prints to this output.
-fn run_reloading<R>(
-    rt: &R,
-    alloc: Global,
-    listener: TcpListener,
-    reloads: &Arc<Reloads, Global>,
-    stop: &Stop,
-    output: Ends<Shared<R>>,
-) -> Ending
-where
-    R: Net<Listener = TcpListener, Stream = TcpStream>
-        + Threads
-        + Wait
-        + Clock
-        + Copy
-        + Send
-        + Sync,
-{
-    let setup = reloading(alloc, reloads)?;
-    let errors = Ends::new(Vec::new(alloc));
-    ending(serve_run(rt, alloc, listener, setup, stop, output, errors, &NoHooks))
-}
-
-/// The same beside that: how it ended, whether all was well, and whether just the last group is printed in the end.
-fn reload_beside<R>(rt: R, alloc: Global) -> Option<((Ending, bool), bool)>
-where
-    R: Net<Listener = TcpListener, Stream = TcpStream>
-        + Threads
-        + Wait
-        + Clock
-        + Copy
-        + Send
-        + Sync,
-{
-    let reloads = no_reloads(alloc)?;
-    let (listener, port) = listening(&rt).ok()?;
-    let (output, written) = watched_end(rt, alloc).ok()?;
-    let stop = Stop::new();
-    let ran = thread::join(
-        &rt,
-        || run_reloading(&rt, alloc, listener, &reloads, &stop, output),
-        || reload_between(&rt, alloc, port, &written, &reloads, &stop),
-    );
-    let are_all = written.lock(&rt).as_slice() == GROUPS[2].as_bytes();
-    Some((ran, are_all))
-}
+const A_RELOAD: &str = r#"
+site 1
+site 1 output changes
+start 1
+ask 1
+> hello 2
+> take {"change":101,"message":"m","op":"patchset","set":1}
+> quit
+< hello 2
+< ok 1,1,1,1
+< bye
+site 1 prints out 101,1 require approval 1
+site 1 prints end 0 1
+# One that wants nothing.
+site 1 gate {"bases":["https://review.example.org/"]}
+site 1 prints +ready 101,1
+site 1 prints end 1 0
+stop 1
+site 1 ends with 1 operation
+site 1 prints nothing more
+"#;
 
 /// A gate that is put in force turns the report at once, though no operation comes.
 #[test]
 fn a_reload_turns_the_report(rt: HostRuntime) {
-    let found = reload_beside(rt, rt.alloc());
-    assert_found(&rt, found, Some(((Some((1, true, false)), true), true)));
+    assert_played(rt, A_RELOAD);
 }
+
+const BEFORE_THE_TURNS: &str = r#"
+site 1
+site 1 page page
+site 1 workers 2
+site 1 output nothing
+start 1
+"#;
+
+const TURNS: &str = r#"
+ask 1
+> hello 2
+> take {"change":101,"message":"m","op":"patchset","set":1}
+> quit
+< hello 2
+< ok 1,1,1,1
+< bye
+site 1 gate {"bases":["https://review.example.org/"]}
+ask 1
+> hello 2
+> ready
+> quit
+< hello 2
+< ready 101,1
+< end 1 0
+< bye
+site 1 gate {"bases":["https://review.example.org/"],"require":{"gerrit":{"approval":[{"Workflow":1}]}}}
+ask 1
+> hello 2
+> ready
+> quit
+< hello 2
+< out 101,1 require approval 1
+< end 0 1
+< bye
+site 1 gate {"bases":["https://review.example.org/"]}
+ask 1
+> hello 2
+> ready
+> quit
+< hello 2
+< ready 101,1
+< end 1 0
+< bye
+site 1 gate {"bases":["https://review.example.org/"],"require":{"gerrit":{"approval":[{"Workflow":1}]}}}
+ask 1
+> hello 2
+> ready
+> quit
+< hello 2
+< out 101,1 require approval 1
+< end 0 1
+< bye
+site 1 gate {"bases":["https://review.example.org/"]}
+ask 1
+> hello 2
+> ready
+> quit
+< hello 2
+< ready 101,1
+< end 1 0
+< bye
+site 1 gate {"bases":["https://review.example.org/"],"require":{"gerrit":{"approval":[{"Workflow":1}]}}}
+ask 1
+> hello 2
+> ready
+> quit
+< hello 2
+< out 101,1 require approval 1
+< end 0 1
+< bye
+site 1 gate {"bases":["https://review.example.org/"]}
+"#;
 
 /// Whether a client that asks what is ready is answered so.
 fn is_ready_so<R>(rt: &R, alloc: Global, port: u16, wanted: &str) -> bool
@@ -178,30 +150,6 @@ where
     R: Net<Listener = TcpListener, Stream = TcpStream>,
 {
     text_of(&talk(rt, alloc, port, ASK_READY)) == wanted
-}
-
-/// How many clients that ask what is ready are answered under each of the two gates in turn, which are put in force
-/// just before; and whether the page of the site shows the item once the last one is.
-fn ask_in_turn<R>(rt: &R, alloc: Global, ports: (u16, u16), reloads: &Reloads) -> (usize, bool)
-where
-    R: Net<Listener = TcpListener, Stream = TcpStream> + Wait,
-{
-    let (port, page) = ports;
-    let _taken = talk(rt, alloc, port, TAKE_PATCH);
-    let mut answered = 0usize;
-    for turn in 0u8..6 {
-        let (text, wanted) = if turn % 2 == 0 {
-            (FREE, IS_READY)
-        } else {
-            (STRICT, WAITS)
-        };
-        if is_put(rt, alloc, reloads, text) && is_ready_so(rt, alloc, port, wanted) {
-            answered = answered.saturating_add(1);
-        }
-    }
-    let is_put = is_put(rt, alloc, reloads, FREE);
-    let is_shown = text_of(&talk(rt, alloc, page, ITEMS)).contains(SHOWN);
-    (answered, is_put && is_shown)
 }
 
 /// Whether a client that asks what is ready is answered under one of the two gates, or before the patch set is taken
@@ -235,69 +183,20 @@ const NOTHING: &str = "hello 2\nend 0 0\nbye\n";
 /// The item as the page has it under the gate that wants nothing.
 const SHOWN: &str = r#""change":101,"set":1,"subject":"m","ready":true"#;
 
-/// Clients that ask in turn, and others beside them: how many of each are answered as they are to be, and whether the
-/// page is. Then the site is asked to stop.
-fn ask_both<R>(
-    rt: &R,
-    alloc: Global,
-    ports: (u16, u16),
-    reloads: &Reloads,
-    stop: &Stop,
-) -> ((usize, bool), usize)
-where
-    R: Net<Listener = TcpListener, Stream = TcpStream> + Threads + Wait + Sync,
-{
-    let both = thread::join(
-        rt,
-        || ask_in_turn(rt, alloc, ports, reloads),
-        || ask_often(rt, alloc, ports.0, 30),
-    );
-    stop.ask(rt);
-    both
-}
-
-/// A site with two workers that shows itself, prints nothing and has these gates put in force; and the port of its
-/// page.
-fn shown_reloading<R>(
-    rt: &R,
-    alloc: Global,
-    reloads: &Arc<Reloads, Global>,
-) -> Option<(Setup<'static>, u16)>
-where
-    R: Net<Listener = TcpListener, Stream = TcpStream> + RandomSource,
-{
-    let reloads = Arc::try_clone(reloads).ok()?;
-    let (mut setup, page) = shown(rt, alloc)?;
-    setup.reloads = reloads;
-    setup.workers = 2;
-    setup.prints = Prints::Nothing;
-    Some((setup, page))
-}
-
-/// How such a site ends, and how many clients are answered.
-fn reload_shown<R>(rt: &R, alloc: Global) -> Option<(Ending, ((usize, bool), usize))>
-where
-    R: Net<Listener = TcpListener, Stream = TcpStream> + RandomSource,
-    R: Threads + Wait + Clock + Sync,
-{
-    let reloads = no_reloads(alloc)?;
-    let (listener, port) = listening(rt).ok()?;
-    let (setup, page) = shown_reloading(rt, alloc, &reloads)?;
-    let stop = Stop::new();
-    Some(thread::join(
-        rt,
-        || ending(run_one(rt, alloc, listener, setup, &stop, &NoHooks)),
-        || ask_both(rt, alloc, (port, page), &reloads, &stop),
-    ))
-}
-
 /// Each session that begins once a gate is in force is answered under it, also where others ask beside it, and so is a
 /// page.
 #[test]
-fn sessions_and_pages_are_under_the_gate_in_force(rt: HostRuntime) {
-    let found = reload_shown(&rt, rt.alloc());
-    let answered = ((6, true), 30);
-    assert_found(&rt, found, Some((Some((1, true, false)), answered)));
+fn sessions_and_pages_are_under_the_gate_in_force(rt: HostRuntime) -> Result<(), Fail> {
+    let mut stage = Stage::new(rt, rt.alloc(), NO_KEYS);
+    assert_part(&rt, &mut stage, BEFORE_THE_TURNS);
+    let (port, page) = stage.port("1").zip(stage.port("page")).ok_or("no ports")?;
+    let others = thread::spawn(&rt, move || ask_often(&rt, rt.alloc(), port, 30))?;
+    assert_part(&rt, &mut stage, TURNS);
+    let items = talk(&rt, rt.alloc(), page, ITEMS);
+    assert_found(&rt, text_of(&items).contains(SHOWN), true);
+    assert_found(&rt, others.join(&rt), 30);
+    assert_part(&rt, &mut stage, "stop 1\nsite 1 ends with 1 operation");
+    Ok(())
 }
 
 /// An input whose lines come as they are typed; it ends where none comes for 20 seconds.

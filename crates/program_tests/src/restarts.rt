@@ -1,7 +1,7 @@
 //! What a site does by the arguments of `serve`: after a restart it has what it acknowledged, from its journal file or
 //! its snapshot, and each option has its effect.
 
-use super::asserts::assert_found;
+use super::asserts::{assert_found, assert_part};
 use super::programs::{
     BARE, GATE, UNTIL_INPUT_ENDS, Way, Words, free_port, is_removed, is_there, is_written,
     serve_input, serve_with,
@@ -11,14 +11,9 @@ use byte_ends::{Drain, Ends, Source};
 use console::Named;
 use key_files::NoKeys;
 use record_pull::SystemFiles;
-use running_sites::{
-    NoHooks, PASS_ON, PASSED, TAKE, ending, listening, pulling, run_one, talk, talk_once_up,
-    text_of,
-};
+use running_sites::{NO_KEYS, PASS_ON, PASSED, Stage, TAKE, talk_once_up, text_of};
 use serve_command::ProgramFault;
-use site_net::Stop;
 use site_serve::ServeFault;
-use std::alloc::Global;
 use std::fs::{File, Permissions};
 use std::io::{Print, Read};
 use std::net::{Net, TcpListener, TcpStream};
@@ -26,7 +21,6 @@ use std::os::unix::fs::PermissionsExt;
 use std::random::RandomSource;
 use std::rt::Files;
 use std::sync::Wait;
-use std::test::Fail;
 use std::thread::Threads;
 use std::time::{Clock, Duration, Instant};
 use std::{fs, io, thread};
@@ -228,51 +222,29 @@ fn a_line_stop_ends_a_site(rt: HostRuntime) {
     assert_found(&rt, (is_given, is_removed(&rt, "gate.tmp")), (true, true));
 }
 
-/// Gives the site at a port a merge, and runs another one that pulls from it under the same start: whether the merge
-/// was taken in, and how the other site ended. Then the first one is asked to stop.
-fn serve_twin<R, N>(rt: R, port: u16, files: N, stop: &Stop) -> (bool, Way)
-where
-    R: Net<Listener = TcpListener, Stream = TcpStream> + RandomSource,
-    R: Files<File = File> + Print + Threads + Wait + Clock + AllocGlobal,
-    R: Copy + Send + Sync + 'static,
-    N: Named + Send + Drop + 'static,
-{
-    let words = Words {
-        peer: Some(port),
-        pause_ms: 50,
-        ..BARE
-    };
-    let is_taken = text_of(&talk(&rt, rt.alloc(), port, TAKE)) == TAKEN;
-    let ended = serve_input(rt, words, files);
-    stop.ask(&rt);
-    (is_taken, ended)
-}
-
-/// How a site of one start ends.
-fn run_endless<R>(
-    rt: &R,
-    alloc: Global,
-    listener: TcpListener,
-    stop: &Stop,
-) -> Option<(usize, bool, bool)>
-where
-    R: Net<Listener = TcpListener, Stream = TcpStream> + Threads + Wait + Clock + Sync,
-{
-    let setup = pulling(alloc, 1, &[]).ok()?;
-    ending(run_one(rt, alloc, listener, setup, stop, &NoHooks))
-}
+const A_PEER: &str = r#"
+site 1
+start 1
+ask 1
+> hello 2
+> take {"change":7,"op":"merged"}
+> quit
+< hello 2
+< ok 1,1,1,1
+< bye
+"#;
 
 /// A site pulls from the peers of its words: where one of them has the site's own start, it ends and says so.
 #[test]
-fn a_start_that_a_peer_has_ends_a_site(rt: HostRuntime) -> Result<(), Fail> {
-    let (listener, port) = listening(&rt)?;
-    let stop = Stop::new();
-    let (ended, twin) = thread::join(
-        &rt,
-        || run_endless(&rt, rt.alloc(), listener, &stop),
-        || serve_twin(rt, port, SystemFiles::new(rt), &stop),
-    );
-    assert_found(&rt, ended, Some((1, true, false)));
-    assert_found(&rt, twin, (true, Way::Program(ProgramFault::StartTaken)));
-    Ok(())
+fn a_start_that_a_peer_has_ends_a_site(rt: HostRuntime) {
+    let mut stage = Stage::new(rt, rt.alloc(), NO_KEYS);
+    assert_part(&rt, &mut stage, A_PEER);
+    let words = Words {
+        peer: stage.port("1"),
+        pause_ms: 50,
+        ..BARE
+    };
+    let ended = serve_input(rt, words, SystemFiles::new(rt));
+    assert_found(&rt, ended, Way::Program(ProgramFault::StartTaken));
+    assert_part(&rt, &mut stage, "stop 1\nsite 1 ends with 1 operation");
 }

@@ -1,25 +1,18 @@
 //! Sites that show themselves to browsers.
 
-use super::asserts::assert_found;
+use super::asserts::{assert_found, assert_part};
 use super::programs::{BARE, Way, Words, free_port, had, is_there, is_written, serve_input};
 use super::sockets::{bits_of, talk_at};
 use command_line::SocketMode;
-use page_server::open_endpoint;
 use record_pull::SystemFiles;
-use running_sites::{
-    NoHooks, ending, listening, one_session, run_one, talk, talk_once_up, text_of,
-};
+use running_sites::{NO_KEYS, Stage, talk, talk_once_up, text_of};
 use serve_command::ProgramFault;
-use site_address::{Address, PeerAddress};
-use site_net::{Stop, listen_at_path};
-use site_serve::{PageSetup, Setup};
+use site_net::listen_at_path;
 use std::alloc::Global;
 use std::net::{Net, TcpListener, TcpStream};
-use std::random::RandomSource;
 use std::rt::Files;
 use std::sync::Wait;
 use std::test::Fail;
-use std::thread::Threads;
 use std::time::{Clock, Duration};
 use std::{io, thread};
 
@@ -40,46 +33,6 @@ const HEALTH: &str = "GET /healthz HTTP/1.1\r\nHost: 127.0.0.1\r\n\r\n";
 const SHOWN: &str =
     r#"{"total":1,"page":1,"items":[{"change":101,"set":1,"subject":"<b>&","ready":false,"refusal":"require approval 1"}]}"#;
 
-/// The names by which browsers may call a site.
-fn names(alloc: Global) -> Option<Vec<String>> {
-    let name = String::from_str(alloc, "gate.example.org").ok()?;
-    let mut names = Vec::new(alloc);
-    match names.push(name) {
-        Ok(()) => Some(names),
-        Err(_) => None,
-    }
-}
-
-/// Where a site shows itself, also by another name, and the port of that.
-fn page_setup<R>(rt: &R, alloc: Global) -> Option<(PageSetup, u16)>
-where
-    R: Net<Listener = TcpListener, Stream = TcpStream> + RandomSource,
-{
-    let hosts = names(alloc)?;
-    let (listener, port) = listening(rt).ok()?;
-    let (endpoint, waker) = open_endpoint(rt, listener).ok()?;
-    Some((
-        PageSetup {
-            endpoint,
-            waker,
-            hosts,
-        },
-        port,
-    ))
-}
-
-/// A site without a limit of sessions that shows itself there.
-pub fn shown<R>(rt: &R, alloc: Global) -> Option<(Setup<'static>, u16)>
-where
-    R: Net<Listener = TcpListener, Stream = TcpStream> + RandomSource,
-{
-    let (page, port) = page_setup(rt, alloc)?;
-    let mut setup = one_session(alloc, 1).ok()?;
-    setup.sessions = 0;
-    setup.page = Some(page);
-    Some((setup, port))
-}
-
 /// Whether a page's answer has a status, an end and a part like these.
 fn is_shown(answer: &io::Result<String>, front: &str, end: &str) -> bool {
     let text = text_of(answer);
@@ -92,60 +45,62 @@ fn is_escaped(answer: &io::Result<String>) -> bool {
     text.contains("&lt;b&gt;&amp;") && !text.contains("<b>")
 }
 
-/// Whether a site's page shows, once the site took a patch set in, the item as data, its subject escaped, and that the
-/// site is well; then the site is asked to stop.
-fn look_at<R>(rt: &R, alloc: Global, ports: (u16, u16), stop: &Stop) -> (bool, bool, bool)
+/// A site that shows itself and took in a patch set, whose subject has markup.
+const A_SHOWN_SITE: &str = r#"
+site 1
+site 1 page page
+start 1
+ask 1
+> hello 2
+> take {"change":101,"message":"<lt>b>&","op":"patchset","set":1}
+> quit
+< hello 2
+< ok 1,1,1,1
+< bye
+"#;
+
+/// Whether a site's page shows the item as data, its subject escaped, and that the site is well.
+fn look_at<R>(rt: &R, alloc: Global, page: u16) -> (bool, bool, bool)
 where
-    R: Net<Listener = TcpListener, Stream = TcpStream> + Wait,
+    R: Net<Listener = TcpListener, Stream = TcpStream>,
 {
-    let (port, page) = ports;
-    let _taken = talk(rt, alloc, port, TAKE_PATCH);
     let items = is_shown(&talk(rt, alloc, page, ITEMS), "HTTP/1.1 200 OK\r\n", SHOWN);
     let is_escaped = is_escaped(&talk(rt, alloc, page, LIST));
     let is_well = is_shown(&talk(rt, alloc, page, HEALTH), "", "\r\n\r\nok\n");
-    stop.ask(rt);
     (items, is_escaped, is_well)
-}
-
-/// How a site ended: how many operations it had, whether all reports were written, and whether its start was taken.
-pub type Ending = Option<(usize, bool, bool)>;
-
-/// How such a site ends, and what is seen of it.
-fn run_shown<R>(rt: &R, alloc: Global) -> Option<(Ending, (bool, bool, bool))>
-where
-    R: Net<Listener = TcpListener, Stream = TcpStream> + RandomSource,
-    R: Threads + Wait + Clock + Sync,
-{
-    let (listener, port) = listening(rt).ok()?;
-    let (setup, page) = shown(rt, alloc)?;
-    let stop = Stop::new();
-    Some(thread::join(
-        rt,
-        || ending(run_one(rt, alloc, listener, setup, &stop, &NoHooks)),
-        || look_at(rt, alloc, (port, page), &stop),
-    ))
 }
 
 /// A site shows what it took in, as data and escaped on a page, and ends when it is asked to.
 #[test]
-fn a_site_shows_what_it_took(rt: HostRuntime) {
-    let found = run_shown(&rt, rt.alloc());
-    let seen = (true, true, true);
-    assert_found(&rt, found, Some((Some((1, true, false)), seen)));
+fn a_site_shows_what_it_took(rt: HostRuntime) -> Result<(), Fail> {
+    let mut stage = Stage::new(rt, rt.alloc(), NO_KEYS);
+    assert_part(&rt, &mut stage, A_SHOWN_SITE);
+    let seen = look_at(&rt, rt.alloc(), stage.port("page").ok_or("no page")?);
+    assert_found(&rt, seen, (true, true, true));
+    assert_part(&rt, &mut stage, "stop 1\nsite 1 ends with 1 operation");
+    Ok(())
 }
 
-/// What a site's page answers of the site once a session has ended with a fault; then the site is asked to stop.
-fn status_after_fault<R>(
-    rt: &R,
-    alloc: Global,
-    ports: (u16, u16),
-    stop: &Stop,
-) -> io::Result<String>
+const A_FAULTY_SESSION: &str = r#"
+# It has a peer that it doesn't reach, heard a feed, and has a session that ends with a fault.
+site 1
+site 1 page page
+site 1 pulls nobody
+start 1
+ask 1
+> hello 2
+> heard
+> hello 3
+< hello 2
+< noted
+< no 2 BadVersion
+"#;
+
+/// What a site's page answers of the site once a session has ended with a fault.
+fn status_after_fault<R>(rt: &R, alloc: Global, page: u16) -> io::Result<String>
 where
-    R: Net<Listener = TcpListener, Stream = TcpStream> + Wait + Clock,
+    R: Net<Listener = TcpListener, Stream = TcpStream> + Clock,
 {
-    let (port, page) = ports;
-    let _answers = talk(rt, alloc, port, "hello 2\nheard\nhello 3\n");
     let mut status = talk(rt, alloc, page, STATUS);
     for _try in 0..100 {
         if text_of(&status).contains("\"session_faults\":1") {
@@ -154,38 +109,7 @@ where
         let _ = thread::sleep(rt, Duration::from_millis(50));
         status = talk(rt, alloc, page, STATUS);
     }
-    stop.ask(rt);
     status
-}
-
-/// A site that shows itself and has a peer that it doesn't reach.
-fn shown_with_peer<R>(rt: &R, alloc: Global) -> Option<(Setup<'static>, u16)>
-where
-    R: Net<Listener = TcpListener, Stream = TcpStream> + RandomSource,
-{
-    let (mut setup, page) = shown(rt, alloc)?;
-    let peer = PeerAddress::Here(Address::Path("./no/such/socket"));
-    match setup.peers.push(peer) {
-        Ok(()) => Some((setup, page)),
-        Err(_) => None,
-    }
-}
-
-/// What such a site's page answers of it.
-fn status_of<R>(rt: &R, alloc: Global) -> Option<String>
-where
-    R: Net<Listener = TcpListener, Stream = TcpStream> + RandomSource,
-    R: Threads + Wait + Clock + Sync,
-{
-    let (listener, port) = listening(rt).ok()?;
-    let (setup, page) = shown_with_peer(rt, alloc)?;
-    let stop = Stop::new();
-    let (_ended, status) = thread::join(
-        rt,
-        || ending(run_one(rt, alloc, listener, setup, &stop, &NoHooks)),
-        || status_after_fault(rt, alloc, (port, page), &stop),
-    );
-    status.ok()
 }
 
 /// What of a site's status is to be there.
@@ -200,16 +124,18 @@ const STATUS_PARTS: [&str; 6] = [
 
 /// A site shows what feeds it heard, which sessions failed, and which peers it doesn't reach.
 #[test]
-fn a_site_shows_how_it_is(rt: HostRuntime) {
-    let status = status_of(&rt, rt.alloc());
-    let text = match &status {
-        Some(status) => status.as_str(),
-        None => "",
-    };
+fn a_site_shows_how_it_is(rt: HostRuntime) -> Result<(), Fail> {
+    let mut stage = Stage::new(rt, rt.alloc(), NO_KEYS);
+    assert_part(&rt, &mut stage, A_FAULTY_SESSION);
+    let page = stage.port("page").ok_or("no page")?;
+    let status = status_after_fault(&rt, rt.alloc(), page);
+    let text = text_of(&status);
     for part in STATUS_PARTS {
         assert_found(&rt, (part, text.contains(part)), (part, true));
     }
     assert_found(&rt, text.contains("\"heard_ms\":null"), false);
+    assert_part(&rt, &mut stage, "stop 1\nsite 1 ends with 0 operations");
+    Ok(())
 }
 
 /// The items of a site that took it under a gate that wants nothing.

@@ -2,19 +2,18 @@
 
 use gate_rules::{Gate, GateFault};
 use replica_core::Replica;
-use site_address::{Address, PeerAddress};
 use site_serve::{Prints, Reloads, Setup};
 use std::alloc::Global;
 use std::sync::Arc;
 
 /// A gate that wants a workflow vote.
-const GATE: &[u8] =
-    br#"{"bases":["https://review.example.org/"],"require":{"gerrit":{"approval":[{"Workflow":1}]}}}"#;
+pub(super) const GATE: &str =
+    r#"{"bases":["https://review.example.org/"],"require":{"gerrit":{"approval":[{"Workflow":1}]}}}"#;
 
 /// A site under start 1, empty, with one worker and one session.
 pub fn one_session(alloc: Global, site: u16) -> Result<Setup<'static>, GateFault> {
     Ok(Setup {
-        gate: Gate::read(alloc, GATE)?,
+        gate: Gate::read(alloc, GATE.as_bytes())?,
         reloads: Arc::new(alloc, Reloads::new()).map_err(|_| GateFault::NoMemory)?,
         replica: Replica::new(alloc),
         site,
@@ -30,15 +29,4 @@ pub fn one_session(alloc: Global, site: u16) -> Result<Setup<'static>, GateFault
         prints: Prints::Report,
         page: None,
     })
-}
-
-/// A site without end, that pulls from these ports.
-pub fn pulling(alloc: Global, site: u16, peers: &[u16]) -> Result<Setup<'static>, GateFault> {
-    let mut setup = one_session(alloc, site)?;
-    setup.sessions = 0;
-    for port in peers {
-        let peer = PeerAddress::Here(Address::Port(*port));
-        setup.peers.push(peer).map_err(|_| GateFault::NoMemory)?;
-    }
-    Ok(setup)
 }

@@ -48,7 +48,7 @@ where
         if let Ok(answers) = talk(rt, alloc, port, lines) {
             return Ok(answers);
         }
-        let _ = thread::sleep(rt, Duration::from_millis(10));
+        thread::sleep(rt, Duration::from_millis(10));
     }
     talk(rt, alloc, port, lines)
 }
@@ -59,11 +59,4 @@ pub fn text_of(answers: &io::Result<String>) -> &str {
         Ok(text) => text.as_str(),
         Err(_) => "no answer",
     }
-}
-
-/// Connects as a client that sends so much and then nothing.
-pub fn stall<R: Net<Stream = TcpStream>>(rt: &R, port: u16, lines: &str) -> io::Result<TcpStream> {
-    let mut stream = TcpStream::connect(rt, ("127.0.0.1", port))?;
-    stream.write_all(lines.as_bytes())?;
-    Ok(stream)
 }

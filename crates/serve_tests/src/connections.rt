@@ -1,5 +1,6 @@
 //! Connections over sockets of this machine.
 
+use super::asserts::assert_found;
 use site_net::{Awaited, Patience, PatientReader, PatientWriter, Stop};
 use std::io::{Read, Write};
 use std::net::{Net, TcpListener, TcpStream};
@@ -28,7 +29,7 @@ fn patience_ends_at_its_limit(rt: HostRuntime) {
         (Awaited::NextLine, Some(900), 900, true),
     ] {
         let waited = Duration::from_millis(waited);
-        assert_eq!(rt; patience(300, idle).is_over(awaited, waited), is_over);
+        assert_found(&rt, patience(300, idle).is_over(awaited, waited), is_over);
     }
 }
 
@@ -52,8 +53,8 @@ fn assert_reads<R: Abort + Clock>(
 ) -> Result<(), Fail> {
     let mut into = [0; 64];
     let count = reader.read(&mut into)?;
-    assert_eq!(rt; &into[..count.min(64)], text);
-    assert_eq!(rt; reader.read(&mut into).is_err(), fails);
+    assert_found(rt, &into[..count.min(64)], text);
+    assert_found(rt, reader.read(&mut into).is_err(), fails);
     Ok(())
 }
 
@@ -71,7 +72,7 @@ fn a_first_line_that_does_not_come_is_given_up(rt: HostRuntime) -> Result<(), Fa
     let (_asking, asked) = both_sides(&rt)?;
     let stop = Stop::new();
     let mut reader = PatientReader::new(&rt, &asked, &stop, patience(200, None))?;
-    assert!(rt; reader.read(&mut [0; 64]).is_err());
+    assert_found(&rt, reader.read(&mut [0; 64]).is_err(), true);
     Ok(())
 }
 
@@ -129,7 +130,8 @@ fn a_stop_wakes_who_waits(rt: HostRuntime) -> Result<(), Fail> {
     let stop = Stop::new();
     let begun = Instant::now(&rt)?;
     let (read, ended) = thread::join(&rt, || read_silence(&rt, &asked, &stop), || end(&rt, &stop));
-    assert!(rt; read && ended);
-    assert!(rt; begun.elapsed(&rt)? < Duration::from_millis(30_000));
+    assert_found(&rt, (read, ended), (true, true));
+    let is_soon = begun.elapsed(&rt)? < Duration::from_millis(30_000);
+    assert_found(&rt, is_soon, true);
     Ok(())
 }

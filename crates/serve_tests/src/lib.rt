@@ -16,6 +16,8 @@ mod gossip;
 #[cfg(test)]
 mod peers;
 #[cfg(test)]
+mod plays;
+#[cfg(test)]
 mod records;
 #[cfg(test)]
 mod sites;

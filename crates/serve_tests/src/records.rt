@@ -1,13 +1,11 @@
 //! Commands over the record of a running site, and over ports where none answers as one.
 
+use super::asserts::assert_found;
 use byte_ends::Ends;
 use command_line::{Asked, read_words};
 use commands::run_command;
-use op_text::read_op;
 use record_pull::SystemFiles;
-use running_sites::{NoHooks, ending, listening, one_session, run_one};
-use site_net::Stop;
-use site_serve::Setup;
+use running_sites::{AS_WRITTEN, NO_KEYS, Stage, listening};
 use std::alloc::Global;
 use std::io::Write;
 use std::net::{Net, TcpListener, TcpStream};
@@ -22,10 +20,6 @@ use std::{io, thread};
 /// A gate that wants a vote of zuul.
 const GATE: &[u8] =
     br#"{"bases":["https://r/"],"require":{"gerrit":{"approval":{"username":"zuul","Verified":[1,2]}}}}"#;
-
-/// A patch set of change 101.
-const PATCH_SET: &[u8] =
-    br#"{"change":101,"message":"m","op":"patchset","seq":1,"set":1,"site":1,"start":2,"time":1}"#;
 
 /// What a command wrote to standard output and standard error, and its exit status.
 type Answered = (u8, Vec<u8>, Vec<u8>);
@@ -76,42 +70,29 @@ fn assert_answered(
         }
         Err(_) => false,
     };
-    assert!(rt; found, "{line}");
+    assert_found(rt, (line, found), (line, true));
     Ok(())
 }
 
-/// A site that has a patch set of change 101, which another one took in, and ends after one session.
-fn with_patch_set(alloc: Global) -> Result<Setup<'static>, Fail> {
-    let mut setup = one_session(alloc, 2)?;
-    let _taken = setup.replica.take(read_op(alloc, PATCH_SET)?)?;
-    Ok(setup)
-}
-
-/// How such a site ends.
-fn run_with_patch_set<R>(
-    rt: &R,
-    alloc: Global,
-    listener: TcpListener,
-) -> Result<Option<(usize, bool, bool)>, Fail>
-where
-    R: Net<Listener = TcpListener, Stream = TcpStream> + Threads + Wait + Clock + Sync,
-{
-    let setup = with_patch_set(alloc)?;
-    Ok(ending(run_one(rt, alloc, listener, setup, &Stop::new(), &NoHooks)))
-}
+const A_PATCH_SET: &str = r#"
+# Another site took it in.
+site 2
+site 2 has {"change":101,"message":"m","op":"patchset","seq":1,"set":1,"site":1,"start":2,"time":1}
+site 2 sessions 1
+start 2
+"#;
 
 #[test]
 fn a_running_site_is_asked_why(rt: HostRuntime) -> Result<(), Fail> {
-    let alloc = rt.alloc();
-    let (listener, port) = listening(&rt)?;
-    let (ended, answered) = thread::join(
-        &rt,
-        || run_with_patch_set(&rt, alloc, listener),
-        || why_of(rt, alloc, port),
-    );
-    assert_eq!(rt; ended?, Some((1, true, false)));
+    let mut stage = Stage::new(rt, rt.alloc(), NO_KEYS);
+    assert_found(&rt, stage.play(A_PATCH_SET).as_str(), AS_WRITTEN);
+    let port = stage.port("2").ok_or("no port")?;
+    let answered = why_of(rt, rt.alloc(), port);
     let reason = "101,1 require approval 1\nwant {\"Verified\":[1,2],\"username\":\"zuul\"}\n";
-    assert_answered(&rt, alloc, &answered, 0, reason, "", port)
+    assert_answered(&rt, rt.alloc(), &answered, 0, reason, "", port)?;
+    let ended = stage.play("site 2 ends with 1 operation");
+    assert_found(&rt, ended.as_str(), AS_WRITTEN);
+    Ok(())
 }
 
 #[test]

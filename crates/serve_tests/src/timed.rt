@@ -1,5 +1,6 @@
 //! Lines that begin with the time at which they are written.
 
+use super::asserts::assert_found;
 use byte_ends::{Ends, write_all};
 use jiff::Timestamp;
 use std::io;
@@ -35,9 +36,10 @@ fn each_line_begins_with_its_time(rt: HostRuntime) -> Result<(), Fail> {
     }
     let wanted = "1970-01-01T00:00:01.001Z one\n1970-01-01T00:00:02.002Z two\nthree\n\
         1970-01-01T00:00:04.004Z \n1970-01-01T00:00:05.005Z five";
-    assert_eq!(rt;
+    assert_found(
+        &rt,
         timed.into_inner().into_inner().as_slice(),
-        wanted.as_bytes()
+        wanted.as_bytes(),
     );
     Ok(())
 }
@@ -48,9 +50,10 @@ fn lines_without_a_clock_have_no_time(rt: HostRuntime) -> Result<(), Fail> {
     let moments = SystemMoments::new(rt, false);
     let mut timed = Timed::new(moments, Ends::new(Vec::new(rt.alloc())));
     write_all(&mut timed, b"one\ntwo\n".as_slice())?;
-    assert_eq!(rt;
+    assert_found(
+        &rt,
         timed.into_inner().into_inner().as_slice(),
-        b"one\ntwo\n".as_slice()
+        b"one\ntwo\n".as_slice(),
     );
     Ok(())
 }
@@ -89,13 +92,15 @@ fn a_time_and_its_line_are_one_write(rt: HostRuntime) -> Result<(), Fail> {
     };
     let mut timed = Timed::new(Counted { count: 3 }, Ends::new(end));
     write_all(&mut timed, b"one\n".as_slice())?;
-    assert!(rt; write_all(&mut timed, b"two\n".as_slice()).is_err());
+    let is_refused = write_all(&mut timed, b"two\n".as_slice()).is_err();
+    assert_found(&rt, is_refused, true);
     write_all(&mut timed, b"three\nfour\n".as_slice())?;
     let wanted = "1970-01-01T00:00:04.004Z one\n|1970-01-01T00:00:06.006Z three\n|\
         1970-01-01T00:00:07.007Z four\n|";
-    assert_eq!(rt;
+    assert_found(
+        &rt,
         timed.into_inner().into_inner().written.as_slice(),
-        wanted.as_bytes()
+        wanted.as_bytes(),
     );
     Ok(())
 }
@@ -113,7 +118,11 @@ fn a_long_line_has_one_time(rt: HostRuntime) -> Result<(), Fail> {
     let mut timed = Timed::new(Counted { count: 3 }, Ends::new(end));
     write_all(&mut timed, line.as_slice())?;
     let written = timed.into_inner().into_inner().written;
-    assert_eq!(rt; written.len(), 5_027);
-    assert_eq!(rt; written.iter().position(|byte| *byte == b'|'), Some(4_081));
+    assert_found(&rt, written.len(), 5_027);
+    assert_found(
+        &rt,
+        written.iter().position(|byte| *byte == b'|'),
+        Some(4_081),
+    );
     Ok(())
 }
