@@ -411,7 +411,8 @@ warning 9 NoStatus /reject/gerrit/status "MERGED "
 end 2 4
 "#;
     assert_check(&rt, rt.alloc(), gate, 0, lines, "");
-    let never = r#"{"bases":["https://r/"],"require":{"gerrit":{"status":"new","approval":{"username":"a*"}}}}"#;
+    let never =
+        r#"{"bases":["https://r/"],"require":{"gerrit":{"status":"new","approval":{"username":"a*"}}}}"#;
     let lines = r#"require /require/gerrit/status status "new"
 require /require/gerrit/approval/0 any vote by "a*"
 warning 4 NeverMet /require/gerrit/status
