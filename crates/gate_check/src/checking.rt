@@ -11,8 +11,8 @@ use super::evidence::Evidence;
 use super::finding::findings_of;
 use super::found::Finding;
 use super::laws::{
-    the_nearest_name_is_found, voters_are_those_who_can_vote, what_is_never_met_lets_nothing_in,
-    what_rejects_nothing_is_never_broken,
+    status_names_are_those_of_changes, the_nearest_name_is_found, voters_are_those_who_can_vote,
+    what_is_never_met_lets_nothing_in, what_rejects_nothing_is_never_broken,
 };
 use gate_rules::Gate;
 use lattice_core::NoMemory;
@@ -41,6 +41,7 @@ pub fn check_gate(alloc: Global, gate: &Gate, state: Option<&State>) -> Result<C
 {
     what_is_never_met_lets_nothing_in();
     what_rejects_nothing_is_never_broken();
+    status_names_are_those_of_changes();
     the_nearest_name_is_found();
     voters_are_those_who_can_vote();
     let evidence = evidence_in(alloc, gate, state)?;

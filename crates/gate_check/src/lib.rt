@@ -32,8 +32,8 @@ mod words;
 
 pub use checking::{Checked, check_gate};
 pub use laws::{
-    the_nearest_name_is_found, voters_are_those_who_can_vote, what_is_never_met_lets_nothing_in,
-    what_rejects_nothing_is_never_broken,
+    status_names_are_those_of_changes, the_nearest_name_is_found, voters_are_those_who_can_vote,
+    what_is_never_met_lets_nothing_in, what_rejects_nothing_is_never_broken,
 };
 pub use object::{CheckedLine, check_line};
 pub use warning::Warning;
