@@ -2,20 +2,20 @@
 
 use super::asserts::assert_found;
 use super::texts::{FIRST, MEMORY, SECOND, many_lines, text_of};
-use line_batches::{Batches, OneByOne, SideBySide};
+use line_batches::{Batches, OneByOne, Pipeline, SideBySide};
 use op_text::read_op;
-use review_ops::Op;
+use replica_core::Gathering;
 use std::alloc::Global;
 
 /// How many lines are enough for four threads.
 const MANY: u64 = 6_000;
 
 /// The operations of lines, read by a reader of each line.
-fn read_each(alloc: Global, lines: &[u8]) -> Option<Vec<Op>> {
-    let mut ops = Vec::new(alloc);
+fn read_each(alloc: Global, lines: &[u8]) -> Option<Gathering> {
+    let mut ops = Gathering::new(alloc);
     for line in lines.split(|byte| *byte == b'\n') {
         if !line.is_empty() {
-            ops.push(read_op(alloc, line).ok()?).ok()?;
+            let _new = ops.take(read_op(alloc, line).ok()?).ok()?;
         }
     }
     Some(ops)
@@ -23,9 +23,10 @@ fn read_each(alloc: Global, lines: &[u8]) -> Option<Vec<Op>> {
 
 /// How many operations are read at once of lines, and whether they are those that are read one by one.
 fn read_at_once<B: Batches>(batches: &B, alloc: Global, lines: &[u8]) -> Option<(usize, bool)> {
-    let ops = batches.operations(alloc, lines)?;
-    let each = read_each(alloc, lines)?;
-    Some((ops.len(), ops.as_slice() == each.as_slice()))
+    let mut pipeline = Pipeline::onto(Gathering::new(alloc));
+    let count = pipeline.take_lines(batches, lines).ok()??;
+    let ops = pipeline.end().ok()?;
+    Some((count, ops.iter().eq(read_each(alloc, lines)?.iter())))
 }
 
 #[test]
@@ -84,5 +85,45 @@ fn one_by_one_nothing_is_read_at_once(rt: HostRuntime) {
     let lines = text_of(alloc, &[FIRST, b"\n"]).expect(&rt, MEMORY);
     assert_found(&rt, read_at_once(&OneByOne, alloc, lines.as_slice()), None);
     assert_found(&rt, OneByOne.size(), 65_536);
-    assert_found(&rt, SideBySide::new(rt).size(), 1_048_576);
+    assert_found(&rt, SideBySide::new(rt).size(), 8_388_608);
+}
+
+/// Takes the operation of a line that is read by itself.
+fn take_one(pipeline: &mut Pipeline, alloc: Global, line: &[u8]) -> Option<()> {
+    pipeline.take(read_op(alloc, line).ok()?).ok()
+}
+
+/// How many operations came where lines are read at once, by themselves, at once again and in vain; and whether they are
+/// in the order of their lines.
+fn taken_in_turn<B: Batches>(batches: &B, alloc: Global) -> Option<(usize, bool)> {
+    let lines = many_lines(alloc, MANY)?;
+    let (front, back) = lines.as_slice().split_at(lines.len() / 2);
+    let begun = front.len() - front.iter().rev().position(|byte| *byte == b'\n')?;
+    let (front, begun) = front.split_at(begun);
+    let ended = back.iter().position(|byte| *byte == b'\n')?;
+    let (ended, back) = back.split_at(ended);
+    let middle = text_of(alloc, &[begun, ended])?;
+    let mut pipeline = Pipeline::onto(Gathering::new(alloc));
+    take_one(&mut pipeline, alloc, SECOND)?;
+    pipeline.take_lines(batches, front).ok()??;
+    take_one(&mut pipeline, alloc, middle.as_slice())?;
+    pipeline
+        .take_lines(batches, back.strip_prefix(b"\n")?)
+        .ok()??;
+    if pipeline.take_lines(batches, b"end 1\n").ok()?.is_some() {
+        return None;
+    }
+    take_one(&mut pipeline, alloc, FIRST)?;
+    let ops = pipeline.end().ok()?;
+    let whole = text_of(alloc, &[SECOND, b"\n", lines.as_slice(), FIRST])?;
+    Some((
+        ops.len(),
+        ops.iter().eq(read_each(alloc, whole.as_slice())?.iter()),
+    ))
+}
+
+#[test]
+fn operations_arrive_in_the_order_of_their_lines(rt: HostRuntime) {
+    let found = taken_in_turn(&SideBySide::new(rt), rt.alloc());
+    assert_found(&rt, found, Some((6_002, true)));
 }

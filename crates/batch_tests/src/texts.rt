@@ -2,8 +2,10 @@
 
 use super::asserts::assert_found;
 use byte_ends::Ends;
+use lattice_core::NoMemory;
 use line_batches::{Batches, OneByOne, SideBySide};
-use replica_core::{Gathering, Replica};
+use replica_core::{EffectJoiner, Gathering, Replica};
+use review_ops::Op;
 use site_journal::{Journal, JournalFault, MemoryTape};
 use snapshot_text::{SnapFault, gather_by};
 use std::alloc::Global;
@@ -18,11 +20,34 @@ pub const FIRST: &[u8] =
 
 pub const SECOND: &[u8] = br#"{"change":101,"op":"abandon","seq":1,"site":2,"start":1,"time":3}"#;
 
-/// Twice so many lines are more than a block of 1 MiB.
+/// Twice so many lines are several blocks of a quarter of a MiB.
 const MANY: u64 = 9_000;
 
 /// So many lines are enough for threads.
 const SOME: u64 = 2_500;
+
+/// Reads side by side, but wants only a quarter of a MiB at once.
+#[derive(Drop)]
+struct SmallBlocks<R: Drop> {
+    whole: SideBySide<R>,
+}
+
+impl<R: Drop> EffectJoiner for SmallBlocks<R> {}
+
+impl<R: Threads + Drop> Batches for SmallBlocks<R> {
+    fn size(&self) -> usize {
+        262_144
+    }
+
+    fn file_and_read(
+        &self,
+        gathering: Gathering,
+        ops: Vec<Op>,
+        lines: &[u8],
+    ) -> Result<(Gathering, Option<Vec<Op>>), NoMemory> {
+        self.whole.file_and_read(gathering, ops, lines)
+    }
+}
 
 /// The bytes of all of them.
 pub fn text_of(alloc: Global, parts: &[&[u8]]) -> Option<Vec<u8>> {
@@ -100,7 +125,10 @@ fn found_in_snapshot(
 ) -> Option<(Result<usize, (u64, u8)>, bool)> {
     let many = many_lines(alloc, count)?;
     let lines = text_of(alloc, &[many.as_slice(), between, many.as_slice(), end])?;
-    let found = gathered(&SideBySide::new(rt), alloc, lines.as_slice());
+    let blocks = SmallBlocks {
+        whole: SideBySide::new(rt),
+    };
+    let found = gathered(&blocks, alloc, lines.as_slice());
     Some(compared(found, gathered(&OneByOne, alloc, lines.as_slice())))
 }
 
@@ -148,7 +176,10 @@ fn found_in_journal(
 ) -> Option<(Result<usize, (u64, u8)>, bool, usize)> {
     let many = many_lines(alloc, count)?;
     let lines = text_of(alloc, &[many.as_slice(), end])?;
-    let found = opened(&SideBySide::new(rt), alloc, lines.as_slice());
+    let blocks = SmallBlocks {
+        whole: SideBySide::new(rt),
+    };
+    let found = opened(&blocks, alloc, lines.as_slice());
     let wanted = opened(&OneByOne, alloc, lines.as_slice());
     let torn = found.as_ref().map_or(0, |found| found.1);
     let (found, is_same) = compared(found.map(|found| found.0), wanted.map(|wanted| wanted.0));

@@ -1,5 +1,5 @@
 -- How lines of operations are put together.
-use Rattle.std.proofs.Common.{ℕ, List, [], ◌∷◌, ◌++◌, sym, ap, ◌∙◌, append-nil}
+use Rattle.std.proofs.Common.{◌≤◌, ℕ, List, [], ◌∷◌, ◌++◌, sym, ap, ◌∙◌, append-nil, arith, length, length-append}
 use Rattle.std.specs.Prelude.{flat_map}
 use Rattle.std.proofs.lemmas.Grind.{flat_map-append}
 use Rattle.byte_ends.specs.Lines.{as_line}
@@ -26,3 +26,15 @@ batch-append front back ops more first second = (
 -- a line is a batch
 pub one_line : (piece : List ℕ) (op : Operation) → IsPlainLine piece op → IsBatch (as_line piece) (op ∷ [])
 one_line piece op is = (piece ∷ [], sym (append-nil (as_line piece)), (is, tt))
+
+few_plain : (pieces : List (List ℕ)) (ops : List Operation) → ArePlainLines pieces ops
+    → length ops ≤ length (flat_map as_line pieces)
+few_plain [] [] are = omega arith
+few_plain [] (op ∷ ops) are = absurd are
+few_plain (piece ∷ pieces) [] are = absurd are
+few_plain (piece ∷ pieces) (op ∷ ops) are =
+    omega (arith, few_plain pieces ops are.1, length-append (as_line piece) (flat_map as_line pieces), length-append piece (10 ∷ []))
+
+-- a batch has no more operations than bytes
+pub few_lines : (bytes : List ℕ) (ops : List Operation) → IsBatch bytes ops → length ops ≤ length bytes
+few_lines bytes ops batch = omega (arith, few_plain batch.0 ops batch.2, ap length batch.1)

@@ -2,13 +2,15 @@
 
 ghost use Rattle.std.specs.Prelude.{◌≡◌, ◌++◌, ◌<◌, ◌≤◌, IfOk, IfSome, List, map};
 ghost use Rattle.line_batches.specs.Batches.{IsBatch};
+ghost use Rattle.replica_core.specs.Journal.{all_arrived};
 ghost use Rattle.review_ops.specs.Operation.{Operation};
 ghost use Rattle.state_core.specs.State.{state_of};
 
 use super::parts::{consume_parts, join_parts, joined};
-use super::reading::{read_in_turn, read_parts};
+use super::pipeline::filed;
+use super::reading::{Beside, read_beside};
 use lattice_core::NoMemory;
-use replica_core::EffectJoiner;
+use replica_core::{EffectJoiner, Gathering};
 use review_ops::Op;
 use state_core::State;
 use std::alloc::Global;
@@ -17,8 +19,8 @@ use std::thread::Threads;
 /// How many bytes are read at once where lines are read one by one: 64 KiB.
 const SMALL: usize = 65_536;
 
-/// How many bytes are read at once where they are read side by side: 1 MiB.
-const LARGE: usize = 1_048_576;
+/// How many bytes are read at once where they are read side by side: 8 MiB.
+const LARGE: usize = 8_388_608;
 
 /// The fewest bytes that are worth threads: 128 KiB.
 const LEAST: usize = 131_072;
@@ -32,15 +34,21 @@ const PARTS: usize = 4;
 /// Reads the operations of many lines at once, or leaves them to be read one by one; and joins the effects of many
 /// operations.
 pub trait Batches: EffectJoiner {
-    /// How many bytes it wants at once, from 1 to 1 MiB.
+    /// How many bytes it wants at once, from 1 to 8 MiB.
     fn size(&self) -> usize
-        ensures { (0 < result) × (result ≤ 1048576) };
+        ensures { (0 < result) × (result ≤ 8388608) };
 
-    /// The operations of whole lines, in their order. `None` where a line isn't whole, is longer than 524,288 bytes, or
-    /// isn't an operation's from its first brace to its last; where memory is refused; or where they are left to be
-    /// read one by one.
-    fn operations(&self, alloc: Global, lines: &[u8]) -> Option<Vec<Op>>
-        ensures { IfSome result (λ ops. IsBatch lines.now ops.items) };
+    /// Files operations into a gathering, and meanwhile reads those of whole lines, in their order. The latter are
+    /// `None` where a line isn't whole, is longer than 524,288 bytes, or isn't an operation's from its first brace to
+    /// its last; where memory is refused for them; or where they are left to be read one by one.
+    fn file_and_read(
+        &self,
+        gathering: Gathering,
+        ops: Vec<Op>,
+        lines: &[u8],
+    ) -> Result<(Gathering, Option<Vec<Op>>), NoMemory>
+        ensures { IfOk result (λ both. (both.0 ≡ all_arrived gathering ops.items)
+            × IfSome both.1 (λ read. IsBatch lines.now read.items)) };
 }
 
 /// Leaves all lines to be read one by one, and joins effects in the thread that calls.
@@ -54,12 +62,20 @@ impl Batches for OneByOne {
         SMALL
     }
 
-    fn operations(&self, _alloc: Global, _lines: &[u8]) -> Option<Vec<Op>> {
-        None
+    fn file_and_read(
+        &self,
+        gathering: Gathering,
+        ops: Vec<Op>,
+        _lines: &[u8],
+    ) -> Result<(Gathering, Option<Vec<Op>>), NoMemory> {
+        match filed(gathering, ops) {
+            Ok(both) => Ok((both, None)),
+            Err(refused) => Err(refused),
+        }
     }
 }
 
-/// Reads lines and joins effects by four threads side by side.
+/// Reads lines by three threads while a fourth one files, and joins effects by four.
 #[derive(Drop)]
 pub struct SideBySide<R: Drop> {
     rt: R,
@@ -77,11 +93,18 @@ impl<R: Threads + Drop> Batches for SideBySide<R> {
         LARGE
     }
 
-    fn operations(&self, alloc: Global, lines: &[u8]) -> Option<Vec<Op>> {
-        if lines.len() < LEAST {
-            return read_in_turn(alloc, lines);
+    fn file_and_read(
+        &self,
+        gathering: Gathering,
+        ops: Vec<Op>,
+        lines: &[u8],
+    ) -> Result<(Gathering, Option<Vec<Op>>), NoMemory> {
+        let others = if lines.len() < LEAST { 0 } else { PARTS - 1 };
+        let Beside { filed, read } = read_beside(&self.rt, gathering, ops, lines, others);
+        match filed {
+            Ok(both) => Ok((both, read)),
+            Err(refused) => Err(refused),
         }
-        read_parts(&self.rt, alloc, lines, PARTS)
     }
 }
 

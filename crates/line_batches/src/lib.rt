@@ -2,27 +2,33 @@
 //!
 //! Its tests are in the crate `batch_tests`.
 //!
-//! A reader of snapshots or journals splits its text into lines and checks each line itself. Before that it may pass a
-//! block of whole lines to this crate: if all lines are in exactly the form that is written, it gets their operations,
-//! in order; else it gets nothing, reads the lines one by one, and reports the first bad one itself.
+//! A reader of snapshots or journals splits its text into lines and checks each line itself. Before that it may hand a
+//! block of whole lines to a `Pipeline`: if all lines are in exactly the form that is written, that takes their
+//! operations, in order; else it takes nothing, the reader reads the lines one by one, and reports the first bad one
+//! itself. While the lines of one block are read the operations of the block before are filed.
 //!
 //! An example of its use:
 //!
 //! ```
-//! use line_batches::Batches;
+//! use line_batches::{OneByOne, Pipeline, SideBySide};
+//! use replica_core::Gathering;
 //! let line = r#"{"change":101,"op":"merged","seq":1,"site":1,"start":1,"time":1}"#;
 //! let lines = format!(in alloc; "{line}\n")?;
-//! let read = SideBySide::new(rt).operations(alloc, lines.as_bytes());
-//! assert_eq!(rt; read.map_or(0, |ops| ops.len()), 1);
-//! let read = OneByOne.operations(alloc, lines.as_bytes());
-//! assert!(rt; read.is_none());
+//! let mut pipeline = Pipeline::onto(Gathering::new(alloc));
+//! let read = pipeline.take_lines(&SideBySide::new(rt), lines.as_bytes())?;
+//! assert_eq!(rt; read, Some(1));
+//! let read = pipeline.take_lines(&OneByOne, lines.as_bytes())?;
+//! assert_eq!(rt; read, None);
+//! assert_eq!(rt; pipeline.end()?.len(), 1);
 //! ```
 #![tactic(auto)]
 
 mod batches;
 mod cuts;
 mod parts;
+mod pipeline;
 mod reading;
 
 pub use batches::{Batches, OneByOne, SideBySide};
 pub use cuts::{past_first_lf, past_last_lf};
+pub use pipeline::Pipeline;

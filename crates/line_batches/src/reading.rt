@@ -1,39 +1,71 @@
-//! Reads whole lines of operations, one after the other, or a part of them in each of several threads.
+//! Reads whole lines of operations in other threads, while this one files those that came before.
 
-ghost use Rattle.std.specs.Prelude.{◌≡◌, ◌≤◌, ◌<◌, ◌-◌, ◌∷◌, ◌++◌, ℕ, IfSome, List, length, slice_index, true};
+ghost use Rattle.std.specs.Prelude.{◌≡◌, ◌≤◌, ◌<◌, ◌-◌, ◌∷◌, ◌++◌, ℕ, IfOk, IfSome, List, length, slice_index};
+ghost use Rattle.std.specs.Prelude.{true};
 ghost use Rattle.line_reader.specs.Lines.{HasNoLf};
 ghost use Rattle.line_batches.specs.Batches.{IsBatch, IsPlainLine};
+ghost use Rattle.replica_core.specs.Journal.{all_arrived};
 
 use super::cuts::past_first_lf;
+use super::pipeline::filed;
+use lattice_core::NoMemory;
 use line_reader::{LINE_LIMIT, first_lf};
 use op_text::read_op;
+use replica_core::Gathering;
 use review_ops::Op;
 use std::alloc::Global;
 use std::thread::{Threads, join};
 
-/// The operations of whole lines, in so many parts, each of which but the last is read by another thread.
-#[cycle(parts)]
-pub(super) fn read_parts<R: Threads>(
+/// A gathering into which operations were filed, and the operations that were read meanwhile.
+#[derive(Drop)]
+pub(super) struct Beside {
+    pub(super) filed: Result<Gathering, NoMemory>,
+    pub(super) read: Option<Vec<Op>>,
+}
+
+/// Files operations into a gathering, while so many other threads each read a part of whole lines.
+#[cycle(beside)]
+pub(super) fn read_beside<R: Threads>(
     rt: &R,
-    alloc: Global,
+    gathering: Gathering,
+    ops: Vec<Op>,
     lines: &[u8],
-    parts: usize,
-) -> Option<Vec<Op>>
-    ensures { IfSome result (λ ops. IsBatch lines.now ops.items) }
+    others: usize,
+) -> Beside
+    ensures filed { IfOk result.filed (λ both. both ≡ all_arrived gathering ops.items) }
+    ensures read { IfSome result.read (λ read. IsBatch lines.now read.items) }
 {
-    if parts <= 1 {
-        return read_in_turn(alloc, lines);
+    let alloc = gathering.allocator();
+    if others == 0 {
+        return Beside {
+            filed: filed(gathering, ops),
+            read: read_in_turn(alloc, lines),
+        };
     }
-    let fewer = parts - 1;
-    let (front, back) = lines.split_at(near_share(lines, parts));
+    let fewer = others - 1;
+    let (front, back) = lines.split_at(near_share(lines, others));
     let first = || -> Option<Vec<Op>>
-        ensures { IfSome result (λ ops. IsBatch front.entry.now ops.items) }
+        ensures { IfSome result (λ read. IsBatch front.entry.now read.items) }
     { read_in_turn(alloc, front) };
-    let rest = || -> Option<Vec<Op>>
-        ensures { IfSome result (λ ops. IsBatch back.entry.now ops.items) }
-    { read_parts(rt, alloc, back, fewer) };
+    let rest = move || -> Beside
+        ensures filed { IfOk result.filed (λ both. both ≡ all_arrived gathering ops.items) }
+        ensures read { IfSome result.read (λ read. IsBatch back.entry.now read.items) }
+    { read_beside(rt, gathering, ops, back, fewer) };
     let (first, rest) = join(rt, first, rest);
-    both(first, rest)
+    with_front(first, rest)
+}
+
+/// The same with what was read before.
+fn with_front(front: Option<Vec<Op>>, rest: Beside) -> Beside
+    ensures filed { result.filed ≡ rest.filed }
+    ensures read { (lines more : List ℕ) → IfSome front (λ ops. IsBatch lines ops.items)
+        → IfSome rest.read (λ ops. IsBatch more ops.items) → IfSome result.read (λ ops. IsBatch (lines ++ more) ops.items) }
+{
+    let Beside { filed, read } = rest;
+    Beside {
+        filed,
+        read: both(front, read),
+    }
 }
 
 /// The operations of both, where both are there.
@@ -69,7 +101,7 @@ fn near_share(lines: &[u8], parts: usize) -> usize
 }
 
 /// The operations of whole lines, one after the other.
-pub(super) fn read_in_turn(alloc: Global, lines: &[u8]) -> Option<Vec<Op>>
+fn read_in_turn(alloc: Global, lines: &[u8]) -> Option<Vec<Op>>
     ensures { IfSome result (λ ops. IsBatch lines.now ops.items) }
 {
     let mut ops = Vec::new(alloc);

@@ -45,18 +45,6 @@ read_batch came bytes journal held more next none batch read =
       count = omega (arith, read.count, length-append read.pieces batch.0, plain_length batch.0 more batch.2);
     }
 
--- ---- operations one after the other
-abbrev holding : Reading → List Operation → Reading
-holding reading journal = record reading { gathering = journal }
-
-pub next_arrived : (first now : Reading) (before : List Operation) (op : Operation) (journal : List Operation)
-    → now ≡ record first { gathering = all_arrived first.gathering before } → journal ≡ arrived now.gathering op
-    → record now { gathering = journal } ≡ record first { gathering = all_arrived first.gathering (before ++ op ∷ []) }
-next_arrived first now before op journal is came =
-    let all : journal ≡ all_arrived first.gathering (before ++ op ∷ []) =
-    came ∙ ap (λ r. arrived r.gathering op) is ∙ sym (all_arrived-push first.gathering before op) in
-    ap (λ r. holding r journal) is ∙ ap (λ j. holding first j) all
-
 pub batch_taken : (came bytes : List ℕ) (old new : Reading) (more : List Operation) (next : ℕ) → IsBatch bytes more
     → old.held.items ≡ [] → next ≡ old.next + length more
     → new ≡ record old { gathering = all_arrived old.gathering more; next = next }

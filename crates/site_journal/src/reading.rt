@@ -1,23 +1,20 @@
 //! Reads the text of a journal, block by block.
 
-ghost use Rattle.std.specs.Prelude.{IsErrOf, IsTrue, ◌↔◌, ◌≡◌, ◌≤◌, ◌<◌, ◌+◌, ◌++◌, ◌∷◌, [], ℕ, List, IfOk, IfErr};
+ghost use Rattle.std.specs.Prelude.{IsErrOf, IsTrue, ◌↔◌, ◌≡◌, ◌≤◌, ◌<◌, ◌+◌, ◌^◌, ◌++◌, ◌∷◌, [], ℕ, List, IfOk, IfErr};
 ghost use Rattle.std.specs.Prelude.{IfSome, MatchResult, OnOk, length, vec_len};
 ghost use Rattle.std.specs.Io.KnownBytes.{Consumes, IsAtEnd};
 ghost use Rattle.byte_ends.specs.Lines.{as_line};
-ghost use Rattle.line_batches.specs.Batches.{IsBatch};
 ghost use Rattle.line_reader.specs.Lines.{HasNoLf};
-ghost use Rattle.replica_core.specs.Journal.{all_arrived};
 ghost use Rattle.site_journal.specs.Fault.{CountsJournalFault, IsJournalRefusal, line_fault_of};
 ghost use Rattle.site_journal.specs.Reading.{HasRead, IsFoundText, IsJudged};
 ghost use Rattle.site_journal.specs.Text.{header_line};
 
 use crate::fault::{JournalFault, LineCause};
 use crate::tape::Feed;
-use line_batches::{Batches, past_first_lf, past_last_lf};
+use line_batches::{Batches, Pipeline, past_first_lf, past_last_lf};
 use line_reader::{LINE_LIMIT, first_lf};
 use op_text::{OpTextFault, read_op};
 use replica_core::{Gathering, Replica};
-use review_ops::Op;
 use std::alloc::Global;
 
 /// The first line of a journal.
@@ -165,7 +162,7 @@ fn read_lines<B: Batches, F: Feed>(
 #[derive(Drop)]
 struct Reading {
     pub alloc: Global,
-    pub gathering: Gathering,
+    pub gathering: Pipeline,
     pub held: Vec<u8>,
     pub next: u64,
 }
@@ -177,7 +174,7 @@ impl Reading {
     {
         Reading {
             alloc,
-            gathering: Gathering::onto(Replica::new(alloc)),
+            gathering: Pipeline::onto(Gathering::new(alloc)),
             held: Vec::new(alloc),
             next: 2,
         }
@@ -196,7 +193,8 @@ impl Reading {
             ..
         } = self;
         let torn = held.as_slice().len();
-        Ok(Found::Lines(gathering.joined_by(batches)?, seen - torn as u64, torn))
+        let replica = gathering.end()?.joined_by(batches)?;
+        Ok(Found::Lines(replica, seen - torn as u64, torn))
     }
 
     /// Reads some bytes, and what they say. 0 is the end.
@@ -254,39 +252,25 @@ impl Reading {
             → (later : List ℕ) → IsJournalRefusal ((came ++ lines.now) ++ later) fault) }
         ensures unfailing { IsErrOf result JournalFault.Failed → ⊥ }
     {
-        match self.operations(batches, lines) {
-            Some((ops, next)) => self.take_all(ops, next),
-            None => self.take_lines(lines),
+        if !self.has_room(lines) {
+            return self.take_lines(lines);
+        }
+        match self.gathering.take_lines(batches, lines) {
+            Ok(Some(count)) => {
+                self.next += count as u64;
+                Ok(())
+            }
+            Ok(None) => self.take_lines(lines),
+            Err(_) => Err(JournalFault::NoMemory),
         }
     }
 
-    /// The operations of whole lines that come next, where they are read at once, and the number of the line after
-    /// them.
-    fn operations<B: Batches>(&self, batches: &B, lines: &[u8]) -> Option<(Vec<Op>, u64)>
-        ensures { IfSome result (λ read. IsBatch lines.now read.0.items × (self.now.held.items ≡ [])
-            × (read.1 ≡ self.now.next + length read.0.items)) }
+    /// Whether whole lines may be read at once: there are some, none is begun, and they can be counted.
+    fn has_room(&self, lines: &[u8]) -> bool
+        ensures { IsTrue result → (self.now.held.items ≡ []) × (self.now.next + length lines.now < 2 ^ 64) }
     {
-        if lines.is_empty() || !self.held.is_empty() {
-            return None;
-        }
-        let ops = batches.operations(self.alloc, lines)?;
-        let next = self.next.checked_add(ops.len() as u64)?;
-        Some((ops, next))
-    }
-
-    /// Takes operations, after which the line of this number comes.
-    fn take_all(&mut self, ops: Vec<Op>, next: u64) -> Result<(), JournalFault>
-        ensures ok { OnOk result (self.new ≡ record self.old {
-          gathering = all_arrived self.old.gathering ops.items;
-          next = next;
-        }) }
-        ensures err { IfErr result (λ fault. fault ≡ JournalFault.NoMemory) }
-    {
-        for op in ops {
-            let _arrived = self.gathering.take(op)?;
-        }
-        self.next = next;
-        Ok(())
+        let room = u64::MAX - self.next;
+        !lines.is_empty() && self.held.is_empty() && lines.len() as u64 <= room
     }
 
     /// Reads what came, one line after the other.
@@ -353,7 +337,7 @@ impl Reading {
         let Some(next) = self.next.checked_add(1) else {
             return Err(JournalFault::TooLong);
         };
-        let _taken = self.gathering.take(op)?;
+        self.gathering.take(op)?;
         self.held.clear();
         self.next = next;
         Ok(())

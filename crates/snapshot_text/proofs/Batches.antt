@@ -35,15 +35,6 @@ are_lines (piece ∷ pieces) [] are = absurd are
 are_lines (piece ∷ pieces) (op ∷ ops) are =
     (record { other = no_end piece op are.0; spells = are.0.spells }, are_lines pieces ops are.1)
 
--- there are no more of them than bytes
-pub few_lines : (pieces : List (List ℕ)) (ops : List Operation) → ArePlainLines pieces ops
-    → length ops ≤ length (flat_map as_line pieces)
-few_lines [] [] are = omega arith
-few_lines [] (op ∷ ops) are = absurd are
-few_lines (piece ∷ pieces) [] are = absurd are
-few_lines (piece ∷ pieces) (op ∷ ops) are =
-    omega (arith, few_lines pieces ops are.1, length-append (as_line piece) (flat_map as_line pieces), length-append piece (10 ∷ []))
-
 lines_of_batch : (pieces : List (List ℕ)) (ops : List Operation) (rest : List ℕ) → ArePlainLines pieces ops
     → lines_of (flat_map as_line pieces ++ rest) ≡ pieces ++ lines_of rest
 lines_of_batch [] [] rest are = refl
@@ -72,28 +63,6 @@ begins_on lines pieces ops more begins are = record {
   header = begins.header;
   operations = lines-append begins.front pieces ops more begins.operations (are_lines pieces more are);
 }
-
--- ---- operations one after the other
-
-abbrev holding : Progress → List Operation → ℕ → Progress
-holding p journal count = record p { gathering = journal; count = count }
-
-pub next_taken : (first now : Progress) (before : List Operation) (op : Operation) (journal : List Operation)
-    → now ≡ record first { gathering = all_arrived first.gathering before; count = first.count + length before }
-    → journal ≡ arrived now.gathering op
-    → record now { gathering = journal; count = now.count + 1 }
-    ≡ record first {
-      gathering = all_arrived first.gathering (before ++ op ∷ []);
-      count = first.count + length (before ++ op ∷ []);
-    }
-next_taken first now before op journal is came =
-    let all : journal ≡ all_arrived first.gathering (before ++ op ∷ []) =
-    came ∙ ap (λ p. arrived p.gathering op) is ∙ sym (all_arrived-push first.gathering before op) in
-    let more : now.count + 1 ≡ first.count + length (before ++ op ∷ []) =
-    omega (arith, ap (λ p. p.count) is, length-append before (op ∷ [])) in
-    ap (λ p. holding p journal (now.count + 1)) is
-    ∙ ap (λ j. holding first j (now.count + 1)) all
-    ∙ ap (λ n. holding first (all_arrived first.gathering (before ++ op ∷ [])) n) more
 
 -- ---- what was taken, and how far the bytes are cut
 

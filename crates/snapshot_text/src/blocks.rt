@@ -1,9 +1,8 @@
 //! Reads the text of a snapshot, block by block.
 
 ghost use Rattle.std.specs.Prelude.{◌≡◌, ◌≤◌, ◌<◌, ◌+◌, ◌-◌, ◌^◌, ◌∷◌, ◌++◌, [], ℕ, List, length, IfOk, IfErr, OnOk};
-ghost use Rattle.std.specs.Prelude.{IfSome};
+ghost use Rattle.std.specs.Prelude.{IsTrue};
 ghost use Rattle.byte_ends.specs.Lines.{as_line, lines_of, without_cr};
-ghost use Rattle.line_batches.specs.Batches.{IsBatch};
 ghost use Rattle.line_reader.specs.Lines.{HasNoLf};
 ghost use Rattle.review_ops.specs.Operation.{Operation};
 ghost use Rattle.replica_core.specs.Journal.{all_arrived};
@@ -16,7 +15,6 @@ use byte_ends::Lines;
 use line_batches::{Batches, past_first_lf, past_last_lf};
 use line_reader::first_lf;
 use replica_core::Gathering;
-use review_ops::Op;
 use std::alloc::Global;
 
 /// How far the text of a snapshot was read, or its first fault, after which nothing more of it is kept.
@@ -113,21 +111,21 @@ impl Cutter {
             → (later : List ℕ) → IsFaultIn (lines_of ((came ++ lines.now) ++ later)) fault) }
         ensures few { self.new.progress.count ≤ self.old.progress.count + length lines.now }
     {
-        match self.operations(batches, lines) {
-            Some(ops) => self.progress.take_all(ops),
-            None => self.take_lines(lines),
+        if !self.is_at_operations(lines) {
+            return self.take_lines(lines);
+        }
+        match self.progress.take_batch(batches, lines) {
+            Ok(true) => Ok(()),
+            Ok(false) => self.take_lines(lines),
+            Err(fault) => Err(fault),
         }
     }
 
-    /// The operations of whole lines that come next, where they are read at once.
-    fn operations<B: Batches>(&self, batches: &B, lines: &[u8]) -> Option<Vec<Op>>
-        ensures { IfSome result (λ ops. IsBatch lines.now ops.items × (self.now.held.items ≡ [])
-            × (self.now.progress.stage ≡ Stage.Operations)) }
+    /// Whether whole lines may be read at once: there are some, none is begun, and they come where operations do.
+    fn is_at_operations(&self, lines: &[u8]) -> bool
+        ensures { IsTrue result → (self.now.held.items ≡ []) × (self.now.progress.stage ≡ Stage.Operations) }
     {
-        if lines.is_empty() || !self.held.is_empty() || !self.progress.is_among_operations() {
-            return None;
-        }
-        batches.operations(self.progress.gathering.allocator(), lines)
+        !lines.is_empty() && self.held.is_empty() && self.progress.is_among_operations()
     }
 
     /// Takes the lines that end in the bytes that come next, one after the other.

@@ -1,8 +1,9 @@
 //! Takes the lines of a snapshot, one after the other.
 
 ghost use Rattle.std.specs.Prelude.{◌≡◌, ◌≢◌, ◌↔◌, ◌≤◌, ◌<◌, ◌+◌, ◌-◌, ◌^◌, ◌∷◌, ◌++◌, [], ℕ, List, IsTrue, IfOk};
-ghost use Rattle.std.specs.Prelude.{IfErr, MatchResult, OnOk, length, true};
+ghost use Rattle.std.specs.Prelude.{IfErr, MatchResult, OnOk, false, length, true};
 ghost use Rattle.review_ops.specs.Operation.{Operation};
+ghost use Rattle.line_batches.specs.Batches.{IsBatch};
 ghost use Rattle.op_text.specs.Spelling.{SpellsOperation};
 ghost use Rattle.replica_core.specs.Journal.{arrived, all_arrived};
 ghost use Rattle.snapshot_text.specs.Progress.{HasTaken, IsFaultIn};
@@ -11,6 +12,7 @@ ghost use Rattle.snapshot_text.specs.Snapshot.{IsHeader, SaysOperations};
 
 use super::end_line::claimed;
 use super::fault::SnapFault;
+use line_batches::{Batches, Pipeline};
 use op_text::{OpTextFault, read_op};
 use replica_core::Gathering;
 use review_ops::Op;
@@ -30,7 +32,7 @@ pub(super) enum Stage {
 /// What was taken of a snapshot's lines so far: their operations, and how many lines of operations there were.
 #[derive(Drop)]
 pub(super) struct Progress {
-    pub(super) gathering: Gathering,
+    pub(super) gathering: Pipeline,
     pub(super) stage: Stage,
     pub(super) count: u64,
 }
@@ -42,7 +44,7 @@ impl Progress {
         ensures count { result.count ≡ 0 }
     {
         Progress {
-            gathering,
+            gathering: Pipeline::onto(gathering),
             stage: Stage::Header,
             count: 0,
         }
@@ -75,21 +77,31 @@ impl Progress {
         matches!(self.stage, Stage::Operations)
     }
 
-    /// Takes the operations of the lines that come next.
-    pub(super) fn take_all(&mut self, ops: Vec<Op>) -> Result<(), SnapFault>
-        requires { self.old.count + length ops.items < 2 ^ 64 - 2 }
-        ensures ok { OnOk result (self.new ≡ record self.old {
-          gathering = all_arrived self.old.gathering ops.items;
-          count = self.old.count + length ops.items;
-        }) }
+    /// Takes the operations of whole lines that come next, and answers true; or takes nothing, where they aren't read
+    /// at once.
+    pub(super) fn take_batch<B: Batches>(
+        &mut self,
+        batches: &B,
+        lines: &[u8],
+    ) -> Result<bool, SnapFault>
+        requires { self.old.count + length lines.now < 2 ^ 64 - 2 }
+        ensures read { IfOk result (λ read. read ≡ true → (ops : List Operation) × IsBatch lines.now ops
+            × (self.new ≡ record self.old {
+              gathering = all_arrived self.old.gathering ops;
+              count = self.old.count + length ops;
+            })) }
+        ensures left { IfOk result (λ read. read ≡ false → self.new ≡ self.old) }
         ensures err { IfErr result (λ fault. fault ≡ SnapFault.NoMemory) }
-        ensures few { self.new.count ≤ self.old.count + length ops.items }
+        ensures few { self.new.count ≤ self.old.count + length lines.now }
     {
-        for op in ops {
-            arrive(&mut self.gathering, op)?;
-            self.count += 1;
+        match self.gathering.take_lines(batches, lines) {
+            Ok(Some(count)) => {
+                self.count += count as u64;
+                Ok(true)
+            }
+            Ok(None) => Ok(false),
+            Err(_) => Err(SnapFault::NoMemory),
         }
-        Ok(())
     }
 
     /// All that was gathered, where no line is left.
@@ -103,7 +115,7 @@ impl Progress {
         match self.stage {
             Stage::Header => Err(SnapFault::BadHeader),
             Stage::Operations => Err(SnapFault::NoEnd),
-            Stage::Ended => Ok(self.gathering),
+            Stage::Ended => filed(self.gathering),
         }
     }
 
@@ -149,8 +161,19 @@ impl Progress {
     }
 }
 
+/// All that came, filed.
+fn filed(gathering: Pipeline) -> Result<Gathering, SnapFault>
+    ensures ok { IfOk result (λ both. both ≡ gathering) }
+    ensures err { IfErr result (λ fault. fault ≡ SnapFault.NoMemory) }
+{
+    match gathering.end() {
+        Ok(both) => Ok(both),
+        Err(_) => Err(SnapFault::NoMemory),
+    }
+}
+
 /// Takes the operation of the line with this number.
-fn take_op(gathering: &mut Gathering, line: &[u8], number: u64) -> Result<(), SnapFault>
+fn take_op(gathering: &mut Pipeline, line: &[u8], number: u64) -> Result<(), SnapFault>
     ensures ok { OnOk result ((op : Operation) × SpellsOperation line.now op
         × (gathering.new ≡ arrived gathering.old op)) }
     ensures err { IfErr result (IsLineFault line.now number) }
@@ -163,7 +186,7 @@ fn take_op(gathering: &mut Gathering, line: &[u8], number: u64) -> Result<(), Sn
 }
 
 /// Takes an operation.
-fn arrive(gathering: &mut Gathering, op: Op) -> Result<(), SnapFault>
+fn arrive(gathering: &mut Pipeline, op: Op) -> Result<(), SnapFault>
     ensures ok { OnOk result (gathering.new ≡ arrived gathering.old op) }
     ensures err { IfErr result (λ fault. fault ≡ SnapFault.NoMemory) }
 {

@@ -12,9 +12,9 @@ invariant-loop-seen g l = record {
   seen : l.seen ≡ length came;
   has : HasRead l.fn.gathering came l.blocks;
   few : l.blocks.cutter.progress.count ≤ l.seen;
-  most : l.seen ≤ most_bytes + 1048576;
+  most : l.seen ≤ most_bytes + 8388608;
   some : 0 < vec_len l.block;
-  large : vec_len l.block ≤ 1048576;
+  large : vec_len l.block ≤ 8388608;
   counted : g.S.Source.failed l.source ≡ g.S.Source.failed l.initial.source;
 }
 

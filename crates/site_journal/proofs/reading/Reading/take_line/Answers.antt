@@ -17,4 +17,4 @@ returns-in_default-clause-err c = λ came read later.
 pub returns-clause-ok : goal.returns-clause-ok
 returns-clause-ok c = λ came read.
     read_line_at came c.args.self.now.gathering c.args.self.now.held.items c.as_slice.result.now c.take.new.self c.clear.new.self.items c.in-Ok.op c.args.self.now.next c.in-Some.next
-    c.as_slice.ensures.value c.in-Ok.ensures.spelled c.in_ok-_taken.ensures.ok.0 c.clear.ensures.items c.in-Some.ensures.1 read
+    c.as_slice.ensures.value c.in-Ok.ensures.spelled c.in_ok-take.ensures.ok c.clear.ensures.items c.in-Some.ensures.1 read

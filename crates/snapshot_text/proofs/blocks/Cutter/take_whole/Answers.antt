@@ -1,20 +1,21 @@
-use Rattle.std.proofs.Common.{ap, arith, length, refl}
-use Rattle.std.proofs.lemmas.Result.{on_ok_weaker}
-use Rattle.snapshot_text.proofs.Batches.{cut_batch, few_lines}
+use Rattle.std.proofs.Common.{◌++◌, refl, rules, subst, sym}
+use Rattle.std.specs.Prelude.{IsTrue}
+use Rattle.std.proofs.lemmas.Result.{IfErr-weaker}
+use Rattle.byte_ends.specs.Lines.{lines_of}
+use Rattle.snapshot_text.specs.Progress.{HasCut, IsFaultIn}
+use Rattle.snapshot_text.proofs.Batches.{cut_batch}
 use Rattle.snapshot_text.proofs.blocks.Cutter.take_whole.Goals as goal
 
-pub take_all-requires : goal.take_all-requires
-take_all-requires g c =
-    let batch = c.in-Some.ensures.0 in
-    omega (arith, c.requires, few_lines batch.0 c.in-Some.ops.items batch.2, ap length batch.1)
+pub returns-in-Ok-true-clause-ok : goal.returns-in-Ok-true-clause-ok
+returns-in-Ok-true-clause-ok g c =
+    let at : IsTrue c.is_at_operations.result = search rules in
+    let read = c.in-Ok-true.ensures.read c.in-Ok-true.field-0-test in
+    λ base came has. cut_batch base came c.args.lines.now c.args.self.now _ read.0 has read.1
+    (c.is_at_operations.ensures at).0 (c.is_at_operations.ensures at).1 refl read.2
 
-pub returns-in-Some-clause-ok : goal.returns-in-Some-clause-ok
-returns-in-Some-clause-ok g c = on_ok_weaker c.take_all.result
-    (λ taken base came has. cut_batch base came c.args.lines.now c.args.self.now _ c.in-Some.ops.items has c.in-Some.ensures.0
-    c.in-Some.ensures.1 c.in-Some.ensures.2 refl taken)
-    c.take_all.ensures.ok
-
-pub returns-in-Some-clause-few : goal.returns-in-Some-clause-few
-returns-in-Some-clause-few g c =
-    let batch = c.in-Some.ensures.0 in
-    omega (arith, c.take_all.ensures.few, few_lines batch.0 c.in-Some.ops.items batch.2, ap length batch.1)
+pub returns-in-Ok-false-clause-err : goal.returns-in-Ok-false-clause-err
+returns-in-Ok-false-clause-err g c =
+    let same = c.in-Ok-false.ensures.left c.in-Ok-false.field-0-test in
+    IfErr-weaker c.take_lines-in-Ok-false.result _ _ (λ fault fails base came has.
+    fails base came (subst (λ p. HasCut base came (record c.args.self.now { progress = p })) (sym same) has))
+    c.take_lines-in-Ok-false.ensures.err
