@@ -62,6 +62,16 @@ abbrev pub IsOutdated : State → Deed → ℕ → Type 0
 IsOutdated state (patch_set change set message parent) number = (1 < set) × IsChild (change_at state number) change
 IsOutdated state deed number = ⊥
 
+-- the deed's patch set is replaced
+abbrev pub IsReplacedSet : State → Deed → Type 0
+IsReplacedSet state (patch_set change set message parent) = IsReplaced (change_at state change) set
+IsReplacedSet state deed = ⊥
+
+-- the deed's patch set isn't replaced, and may outdate this change: a query may have brought it before its event came,
+-- and the change as it was before
+abbrev pub IsLeftBehind : State → Deed → ℕ → Type 0
+IsLeftBehind state deed number = (¬ IsReplacedSet state deed) × IsOutdated state deed number
+
 -- what is new is asked for itself, for what it lacks and for what it may outdate
 abbrev pub IsAskedByNews : State → Option (List (List ℕ)) → Deed → ℕ → Type 0
 IsAskedByNews state bases deed number =
@@ -73,11 +83,13 @@ abbrev pub IsDoubtful : State → Deed → Type 0
 IsDoubtful state (withdraw change set label voter) = ¬ IsRecorded state (withdraw change set label voter)
 IsDoubtful state deed = ⊥
 
--- an event asks by what is new in it, for a change that it leaves in doubt, and for one of which something is lost
+-- an event asks by what is new in it, for a change that it leaves in doubt, for those that its patch set may outdate,
+-- whoever brought that, and for a change of which something is lost
 abbrev pub IsAskedByEvent : State → Option (List (List ℕ)) → Option ℕ → Finding → ℕ → Type 0
 IsAskedByEvent state bases change (Brings deed) number = IsAskedByNews state bases deed number
 IsAskedByEvent state bases change (Shows deed) number =
-    IsAskedByNews state bases deed number ⊎ (IsDoubtful state deed × (number ≡ change_of deed))
+    (IsAskedByNews state bases deed number ⊎ (IsDoubtful state deed × (number ≡ change_of deed)))
+    ⊎ IsLeftBehind state deed number
 IsAskedByEvent state bases change (Lists listing) number = ⊥
 IsAskedByEvent state bases change (Refuses fault) number = change ≡ Some number
 

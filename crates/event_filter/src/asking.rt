@@ -7,8 +7,8 @@ ghost use Rattle.std.specs.Ordering.{nat_cmp};
 ghost use Rattle.footer_text.specs.Footers.{MessageNeeds};
 ghost use Rattle.review_ops.specs.Deed.{change_of};
 ghost use Rattle.event_filter.specs.Asking.{Gains, AsksFor, IsAskedBy, IsAskedByEvent, IsAskedByNews, IsAskedByRow};
-ghost use Rattle.event_filter.specs.Asking.{HasParent, IsChild, IsDoubtful, IsNamedByMessage, IsNew, IsOutdated};
-ghost use Rattle.event_filter.specs.Asking.{IsReplaced, IsUnknown, LacksNeeded};
+ghost use Rattle.event_filter.specs.Asking.{HasParent, IsChild, IsDoubtful, IsLeftBehind, IsNamedByMessage, IsNew};
+ghost use Rattle.event_filter.specs.Asking.{IsOutdated, IsReplaced, IsReplacedSet, IsUnknown, LacksNeeded};
 ghost use Rattle.event_filter.specs.Asking.{says_open};
 ghost use Rattle.event_filter.specs.Recorded.{IsRecorded, change_at, patch_at};
 ghost use Rattle.change_core.specs.Views.{status_of};
@@ -28,10 +28,11 @@ use std::collections::BTreeSet;
 /// a change that the record has as abandoned, has a vote or a withdrawal that the record lacks on a replaced patch set
 /// (Gerrit may copy it to the current one, and has no event for that), shows no vote where the record has one, or is
 /// lost in part; (2) if the new patch set isn't the first, the open changes whose current patch set has that change as
-/// its parent, since it may outdate them; (3) of a new patch set, and of the patch set of an open row, the parent and
-/// the changes that the message names under these bases, if the record has neither a patch set nor a merge of them.
-/// Refusal: memory was refused. It costs O(n + m log k) for n bytes of messages and m of such changes, of k changes of
-/// the record, and O(k) more where a patch set that isn't the first is new.
+/// its parent, since it may outdate them; and also where an event shows such a patch set that the record has, unless it
+/// is replaced; (3) of a new patch set, and of the patch set of an open row, the parent and the changes that the message
+/// names under these bases, if the record has neither a patch set nor a merge of them. Refusal: memory was refused. It
+/// costs O(n + m log k) for n bytes of messages and m of such changes, of k changes of the record, and O(k) more where an
+/// event shows a patch set that isn't the first.
 pub fn asked(
     alloc: Global,
     state: &State,
@@ -119,8 +120,27 @@ fn add_by_event(
     }
 }
 
-/// Adds what is asked for by what is shown: by what is new, and its change, where it leaves a vote in doubt.
+/// Adds what is asked for by what is shown: by what is new; its change, where it leaves a vote in doubt; and what its
+/// patch set may outdate.
 fn add_shown(
+    alloc: Global,
+    state: &State,
+    bases: Option<&Bases>,
+    body: &Body,
+    asks: &mut BTreeSet<u32>,
+) -> Result<(), NoMemory>
+    ensures { OnOk result (Gains
+        (λ number. (IsAskedByNews state.now (option_map (λ bases. bases.now) bases.entry) body.now number
+        ⊎ (IsDoubtful state.now body.now × (number ≡ change_of body.now)))
+        ⊎ IsLeftBehind state.now body.now number)
+        asks.old asks.new) }
+{
+    add_news_and_doubt(alloc, state, bases, body, asks)?;
+    add_left_behind(state, body, asks)
+}
+
+/// Adds what is asked for by what is new, and its change, where it leaves a vote in doubt.
+fn add_news_and_doubt(
     alloc: Global,
     state: &State,
     bases: Option<&Bases>,
@@ -137,6 +157,26 @@ fn add_shown(
         asks.insert(body.change())?;
     }
     Ok(())
+}
+
+/// Adds what a patch set may outdate that isn't replaced, whether it is new or not.
+fn add_left_behind(state: &State, body: &Body, asks: &mut BTreeSet<u32>) -> Result<(), NoMemory>
+    ensures { OnOk result (Gains (IsLeftBehind state.now body.now) asks.old asks.new) }
+{
+    if is_replaced_set(state, body) {
+        return Ok(());
+    }
+    add_outdated(state, body, asks)
+}
+
+/// Whether a body is of a patch set before the current one of its change.
+fn is_replaced_set(state: &State, body: &Body) -> bool
+    ensures { IsTrue result ↔ IsReplacedSet state.now body.now }
+{
+    match body.draft() {
+        Draft::PatchSet { change, set, .. } => is_replaced(state, *change, *set),
+        _ => false,
+    }
 }
 
 /// Adds a change, where there is one.
