@@ -10,6 +10,8 @@ pub enum ShellState {
     Bare,
     /// Behind a dollar outside quotes.
     AfterDollar,
+    /// Behind a dollar and a backslash outside quotes.
+    DollarAfterBackslash,
     /// Behind a backslash outside quotes.
     AfterBackslash,
     /// Within single quotes.
@@ -37,7 +39,9 @@ impl ShellState {
         ensures { result ≡ after_byte self byte }
     {
         match self {
-            ShellState::Bare | ShellState::AfterDollar => after_bare(byte),
+            ShellState::Bare => after_bare(byte),
+            ShellState::AfterDollar => after_dollar(byte),
+            ShellState::DollarAfterBackslash => after_dollar_and_backslash(byte),
             ShellState::AfterBackslash => ShellState::Bare,
             ShellState::Single => after_single(byte),
             ShellState::Double => after_double(byte),
@@ -55,6 +59,26 @@ fn after_bare(byte: u8) -> ShellState
         b'"' => ShellState::Double,
         b'\\' => ShellState::AfterBackslash,
         b'$' => ShellState::AfterDollar,
+        _ => ShellState::Bare,
+    }
+}
+
+/// How it reads the byte after one behind a dollar.
+fn after_dollar(byte: u8) -> ShellState
+    ensures { result ≡ after_byte ShellState.AfterDollar byte }
+{
+    match byte {
+        b'\\' => ShellState::DollarAfterBackslash,
+        _ => after_bare(byte),
+    }
+}
+
+/// How it reads the byte after one behind a dollar and a backslash: a line end is left out with its backslash.
+fn after_dollar_and_backslash(byte: u8) -> ShellState
+    ensures { result ≡ after_byte ShellState.DollarAfterBackslash byte }
+{
+    match byte {
+        b'\n' => ShellState::AfterDollar,
         _ => ShellState::Bare,
     }
 }

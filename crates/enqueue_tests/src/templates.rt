@@ -117,6 +117,8 @@ const QUOTED: &[(&str, &str)] = &[
     ("echo ${branch}", "11 QuotedField branch"),
     ("echo $${change}", "11 QuotedField change"),
     (r"\$$'a'\\${set}", "11 QuotedField set"),
+    ("echo $\\\n{branch}", "11 QuotedField branch"),
+    ("$\\\n\\\n{set}", "11 QuotedField set"),
 ];
 
 #[test]
