@@ -79,8 +79,11 @@ fn try_beside<R: Files>(rt: &R, alloc: Global, name: &str) -> io::Result<()> {
     }
 }
 
-/// Fails where a folder is there, in whose place no file can be put.
+/// Fails where a folder is there, in whose place no file can be put, and for the empty name, which no file has.
 fn refuse_folder<R: Files>(rt: &R, name: &str) -> io::Result<()> {
+    if name.is_empty() {
+        return Err(io::Error::from(ErrorKind::NotFound));
+    }
     match fs::metadata(rt, name) {
         Ok(found) if found.is_dir() => Err(io::Error::from(ErrorKind::IsADirectory)),
         _ => Ok(()),
@@ -96,12 +99,13 @@ fn new_file<R: Files>(rt: &R, name: &str) -> io::Result<R::File> {
         .open(rt, name)
 }
 
-/// Saves a record in a file's place. Of one that isn't saved nothing is left beside the file.
+/// Saves a record in a file's place. A snapshot that can't be put there stays beside the file; nothing is left of one
+/// that can't be written whole.
 fn save<R: Files>(rt: &R, alloc: Global, name: &str, replica: &Replica) -> io::Result<()> {
     let beside = format!(in alloc; "{name}.new")?;
     let _absent = fs::remove_file(rt, beside.as_str());
-    match replace(rt, alloc, beside.as_str(), name, replica) {
-        Ok(()) => sync_folder(rt, name),
+    match write_new(rt, alloc, beside.as_str(), replica) {
+        Ok(()) => put_in_place(rt, beside.as_str(), name),
         Err(error) => {
             let _left = fs::remove_file(rt, beside.as_str());
             Err(error)
@@ -109,19 +113,17 @@ fn save<R: Files>(rt: &R, alloc: Global, name: &str, replica: &Replica) -> io::R
     }
 }
 
-/// Writes the snapshot to a new file beside the file, has the system keep it, and puts it in the file's place. It fails
-/// where something is beside the file already.
-fn replace<R: Files>(
-    rt: &R,
-    alloc: Global,
-    beside: &str,
-    name: &str,
-    replica: &Replica,
-) -> io::Result<()> {
-    let mut drain = Ends::new(new_file(rt, beside)?);
+/// Writes the snapshot to a new file, and has the system keep it. It fails where something is there already.
+fn write_new<R: Files>(rt: &R, alloc: Global, name: &str, replica: &Replica) -> io::Result<()> {
+    let mut drain = Ends::new(new_file(rt, name)?);
     if write_snapshot(alloc, replica, &mut drain).is_err() {
         return Err(io::Error::from(ErrorKind::Other));
     }
-    drain.into_inner().sync_all()?;
-    fs::rename(rt, beside, name)
+    drain.into_inner().sync_all()
+}
+
+/// Puts the new file in the file's place, and has the system keep that.
+fn put_in_place<R: Files>(rt: &R, beside: &str, name: &str) -> io::Result<()> {
+    fs::rename(rt, beside, name)?;
+    sync_folder(rt, name)
 }
