@@ -11,7 +11,6 @@ use gate_rules::Gate;
 use key_files::KeyReader;
 use op_text::read_op;
 use replica_core::Replica;
-use report_text::write_state;
 use site_ledger::NoJournal;
 use site_net::{Listener, Stop};
 use site_serve::{EndedSite, PageSetup, Reloads, ServeFault, Served, Setup, serve_keeping};
@@ -26,11 +25,11 @@ use std::time::Clock;
 /// Said of an end with any number of operations, of which there is nothing else to say.
 const WELL: &str = "well";
 
-/// How a site ended, and its state then, as text.
+/// How a site ended, and the record that it left.
 #[derive(Drop)]
 pub(super) struct EndedAs {
     text: String,
-    state: String,
+    record: Option<Replica>,
 }
 
 /// A site of a play.
@@ -43,8 +42,8 @@ pub(super) struct PlayedSite {
     stop: Arc<Stop, Global>,
     pub output: Heard,
     pub errors: Heard,
-    /// Its state at its end.
-    pub state: Option<String>,
+    /// The record that it left, once its end was awaited.
+    pub record: Option<Replica>,
 }
 
 impl PlayedSite {
@@ -57,7 +56,7 @@ impl PlayedSite {
             stop: Arc::new(alloc, Stop::new()).ok()?,
             output: Heard::new(alloc).ok()?,
             errors: Heard::new(alloc).ok()?,
-            state: None,
+            record: None,
         })
     }
 
@@ -135,8 +134,8 @@ impl PlayedSite {
 
     /// Waits for its end: how it ended; just `well` where this is asked for and it did. None where it wasn't started.
     pub fn ending<R: Threads>(&mut self, rt: &R, alloc: Global, wanted: &str) -> Option<String> {
-        let EndedAs { text, state } = self.running.take()?.join(rt);
-        self.state = Some(state);
+        let EndedAs { text, record } = self.running.take()?.join(rt);
+        self.record = record;
         if wanted == WELL && text.starts_with("with ") && !text.contains(',') {
             return String::from_str(alloc, WELL).ok();
         }
@@ -191,7 +190,7 @@ where
         Some(prepared) => ended_setup(rt, alloc, prepared, ends, &host),
         None => EndedAs {
             text: String::new(alloc),
-            state: String::new(alloc),
+            record: None,
         },
     }
 }
@@ -278,16 +277,16 @@ where
     ended_as(alloc, served, host.has_held_in_vain())
 }
 
-/// How a site ended, and its state.
+/// How a site ended, and what it left.
 fn ended_as(alloc: Global, served: Result<Served, ServeFault>, was_vain: bool) -> EndedAs {
     match served {
         Ok(served) => EndedAs {
             text: ending_of(alloc, &served, was_vain),
-            state: state_of(alloc, &served.replica),
+            record: Some(served.replica),
         },
         Err(fault) => EndedAs {
             text: by_fault(alloc, fault),
-            state: String::new(alloc),
+            record: None,
         },
     }
 }
@@ -314,11 +313,4 @@ fn ending_of(alloc: Global, served: &Served, was_vain: bool) -> String {
 fn by_fault(alloc: Global, fault: ServeFault) -> String {
     let name = fault.name();
     format!(in alloc; "by {name}").unwrap_or(String::new(alloc))
-}
-
-/// The state of a record as text; nothing where memory is refused.
-fn state_of(alloc: Global, replica: &Replica) -> String {
-    let mut drain = Ends::new(Vec::new(alloc));
-    let _written = write_state(replica.state(), &mut drain);
-    String::from_utf8(drain.into_inner()).unwrap_or(String::new(alloc))
 }

@@ -48,7 +48,7 @@
 //!   awaited for ten seconds; `nothing more` as the line: all that was written until now has been read.
 //! - `site NAME ends with N operations`, or `ends by FAULT`: its end is awaited. Where not all could be printed, or its
 //!   start was taken by another, that follows after a comma. `ends well`: neither, with any number of operations.
-//! - `sites NAME NAME have equal states`, as `state` prints them, once both have ended.
+//! - `sites NAME NAME have equal states`, once both have ended.
 //!
 //! Their clients, and peers that aren't sites:
 //!
@@ -76,6 +76,7 @@ use super::ports::{Ports, Rounds, all_lines, expanded, rounds_of};
 use super::reloading::Reloading;
 use super::talks::listening;
 use key_files::{KeyReader, NoKeys};
+use replica_core::Replica;
 use std::alloc::Global;
 use std::net::{Net, Shutdown, TcpListener, TcpStream};
 use std::random::RandomSource;
@@ -337,11 +338,11 @@ fn number_before(words: &str, word: &str) -> Option<u64> {
     words.strip_suffix(word)?.parse::<u64>().ok()
 }
 
-/// The state of the site of a name at its end.
-fn state_of<'a>(sites: &'a [PlayedSite], name: &str) -> Option<&'a str> {
+/// The record that the site of a name left.
+fn record_of<'a>(sites: &'a [PlayedSite], name: &str) -> Option<&'a Replica> {
     for site in sites {
         if site.name.as_str() == name {
-            return site.state.as_ref().map(|state| state.as_str());
+            return site.record.as_ref();
         }
     }
     None
@@ -349,8 +350,8 @@ fn state_of<'a>(sites: &'a [PlayedSite], name: &str) -> Option<&'a str> {
 
 /// Whether two sites ended with equal states.
 fn have_equal_states(sites: &[PlayedSite], one: &str, other: &str) -> bool {
-    match (state_of(sites, one), state_of(sites, other)) {
-        (Some(one), Some(other)) => one == other,
+    match (record_of(sites, one), record_of(sites, other)) {
+        (Some(one), Some(other)) => one.same_state(other),
         _ => false,
     }
 }
