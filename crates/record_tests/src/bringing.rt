@@ -338,6 +338,19 @@ const REPLACED: &[(u32, Deed)] = &[
     (7, Deed::PatchSet(2, "m", Some(5))),
 ];
 
+/// A parent's second patch set that a query brought, and a child; and a third one.
+const REBASED: &[(u32, Deed)] = &[
+    (5, Deed::PatchSet(1, "p", None)),
+    (8, Deed::PatchSet(1, "m", Some(5))),
+    (5, Deed::PatchSet(2, "p", None)),
+];
+
+const REBASED_AGAIN: &[(u32, Deed)] = &[
+    (8, Deed::PatchSet(1, "m", Some(5))),
+    (5, Deed::PatchSet(2, "p", None)),
+    (5, Deed::PatchSet(3, "p", None)),
+];
+
 /// A record, what a line is, what is found in it, and what is asked for.
 type Question = (
     &'static [(u32, Deed)],
@@ -386,6 +399,24 @@ const QUESTIONS: &[Question] = &[
         FAMILY,
         Part::Event(Some(5)),
         &[Found::Shows(5, Deed::PatchSet(1, "p", None))],
+        &[],
+    ),
+    (
+        REBASED,
+        Part::Event(Some(5)),
+        &[Found::Shows(5, Deed::PatchSet(2, "p", None))],
+        &[8],
+    ),
+    (
+        REBASED,
+        Part::Event(Some(5)),
+        &[Found::Shows(5, Deed::PatchSet(1, "p", None))],
+        &[],
+    ),
+    (
+        REBASED_AGAIN,
+        Part::Event(Some(5)),
+        &[Found::Shows(5, Deed::PatchSet(2, "p", None))],
         &[],
     ),
     (
