@@ -3,8 +3,8 @@
 
 use super::asserts::{assert_found, assert_part};
 use super::programs::{
-    BARE, GATE, UNTIL_INPUT_ENDS, Way, Words, free_port, is_removed, is_there, is_written,
-    serve_input, serve_with,
+    BARE, GATE, UNTIL_INPUT_ENDS, Way, Words, free_port, had, is_removed, is_written, serve_input,
+    serve_with,
 };
 use super::sockets::bits_of;
 use byte_ends::{Drain, Ends, Source};
@@ -127,9 +127,9 @@ impl<R: Files> Read for MakesFolder<R> {
     }
 }
 
-/// Of a snapshot that can't be put in its place, which is a folder's by then, nothing is left beside that.
+/// A snapshot that can't be put in its place, which is a folder's by then, is left whole beside that.
 #[test]
-fn nothing_is_left_beside_a_folder(rt: HostRuntime) {
+fn a_snapshot_is_left_beside_a_folder(rt: HostRuntime) {
     let is_given = is_written(&rt, "folder.tmp", GATE.as_bytes());
     let words = Words {
         gate: "folder.tmp",
@@ -140,7 +140,8 @@ fn nothing_is_left_beside_a_folder(rt: HostRuntime) {
     let input = Ends::new(MakesFolder { rt });
     let ended = serve_with(rt, words, input, SystemFiles::new(rt), errors, &NoKeys);
     assert_found(&rt, ended, Way::Program(ProgramFault::NoSave));
-    assert_found(&rt, is_there(&rt, "./late.tmp.new"), false);
+    let is_left = had(&rt, "./late.tmp.new", b"reviewgate 2\nend 0\n");
+    assert_found(&rt, is_left, true);
     let are_removed = (
         fs::remove_dir(&rt, "./late.tmp").is_ok(),
         is_removed(&rt, "folder.tmp"),
@@ -149,11 +150,11 @@ fn nothing_is_left_beside_a_folder(rt: HostRuntime) {
 }
 
 /// A site doesn't run whose snapshot couldn't be saved: where a folder is, or beside a folder that has the name of the
-/// file that is written first, or where no folder is.
+/// file that is written first, or where no folder is, or under the empty name.
 #[test]
 fn a_site_that_could_not_be_saved_does_not_run(rt: HostRuntime) {
     let is_made = fs::create_dir(&rt, "./full.tmp.new").is_ok();
-    for name in [".", "./full.tmp", "no/such/folder/record.snapshot"] {
+    for name in [".", "./full.tmp", "no/such/folder/record.snapshot", ""] {
         let words = Words {
             sockets: &["./no/such/folder/socket"],
             save: Some(name),
