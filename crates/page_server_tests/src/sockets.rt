@@ -55,10 +55,10 @@ struct Opened {
     port: u16,
 }
 
-/// A connection to a port, whose reads wait for 20 seconds at most.
+/// A connection to a port, whose reads wait for 45 seconds at most.
 fn patient<R: Net<Stream = TcpStream>>(rt: &R, port: u16) -> io::Result<TcpStream> {
     let stream = TcpStream::connect(rt, ("127.0.0.1", port))?;
-    match stream.set_read_timeout(Some(Duration::from_secs(20))) {
+    match stream.set_read_timeout(Some(Duration::from_secs(45))) {
         Ok(()) => Ok(stream),
         Err(error) => Err(error),
     }
@@ -244,7 +244,7 @@ fn is_near_answered<R: Net>(rt: &R, alloc: Global) -> bool {
     }
 }
 
-/// A client that has asked over the Unix socket, whose reads wait for 20 seconds at most.
+/// A client that has asked over the Unix socket, whose reads wait for 45 seconds at most.
 fn near<R: Net>(rt: &R) -> io::Result<UnixStream> {
     let mut stream = UnixStream::connect(rt, SOCKET)?;
     match asks(&mut stream) {
@@ -255,7 +255,7 @@ fn near<R: Net>(rt: &R) -> io::Result<UnixStream> {
 
 /// Asks over the Unix socket.
 fn asks(stream: &mut UnixStream) -> io::Result<()> {
-    stream.set_read_timeout(Some(Duration::from_secs(20)))?;
+    stream.set_read_timeout(Some(Duration::from_secs(45)))?;
     stream.write_all(ASK.as_bytes())
 }
 
