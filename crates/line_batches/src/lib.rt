@@ -28,7 +28,9 @@ mod cuts;
 mod parts;
 mod pipeline;
 mod reading;
+mod rooms;
 
 pub use batches::{Batches, OneByOne, SideBySide};
 pub use cuts::{past_first_lf, past_last_lf};
 pub use pipeline::Pipeline;
+pub use rooms::{first_room, next_room};

@@ -11,7 +11,7 @@ ghost use Rattle.site_journal.specs.Text.{header_line};
 
 use crate::fault::{JournalFault, LineCause};
 use crate::tape::Feed;
-use line_batches::{Batches, Pipeline, past_first_lf, past_last_lf};
+use line_batches::{Batches, Pipeline, first_room, next_room, past_first_lf, past_last_lf};
 use line_reader::{LINE_LIMIT, first_lf};
 use op_text::{OpTextFault, read_op};
 use replica_core::{Gathering, Replica};
@@ -145,13 +145,16 @@ fn read_lines<B: Batches, F: Feed>(
     ensures counted { MatchResult result
         (λ _. F.failed feed.new ≡ F.failed feed.old) (CountsJournalFault (F.failed feed.old) (F.failed feed.new)) }
 {
-    let mut piece = vec![in alloc; 0u8; batches.size()]?;
+    let mut piece = first_room(alloc, batches)?;
     let mut reading = Reading::new(alloc);
     let mut seen = 13u64;
     while seen <= TEXT_LIMIT {
         match reading.read_block(batches, feed, piece.as_mut_slice())? {
             0 => return reading.found(batches, seen),
-            count => seen = seen.saturating_add(count as u64),
+            count => {
+                seen = seen.saturating_add(count as u64);
+                piece = next_room(alloc, batches, piece, count)?;
+            }
         }
     }
     Err(JournalFault::TooLong)

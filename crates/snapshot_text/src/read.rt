@@ -1,7 +1,7 @@
 //! Reads snapshots.
 
 ghost use Rattle.std.specs.Prelude.{◌≡◌, ◌⊎◌, ◌≤◌, ◌<◌, ◌+◌, ◌-◌, ◌^◌, ◌++◌, length, OnOk, List, [], Some, IfOk, IfErr};
-ghost use Rattle.std.specs.Prelude.{IfSome, MatchResult, ℕ};
+ghost use Rattle.std.specs.Prelude.{IfSome, MatchResult, vec_len, ℕ};
 ghost use Rattle.std.specs.Io.KnownBytes.{Consumes, IsAtEnd};
 ghost use Rattle.byte_ends.specs.Lines.{lines_of};
 ghost use Rattle.review_ops.specs.Operation.{Operation};
@@ -13,7 +13,7 @@ ghost use Rattle.snapshot_text.specs.Snapshot.{Brings, IsOutside, IsRefusedBy, C
 use super::blocks::Blocks;
 use super::fault::SnapFault;
 use byte_ends::Source;
-use line_batches::{Batches, OneByOne};
+use line_batches::{Batches, OneByOne, first_room, next_room};
 use replica_core::{Gathering, Replica};
 use std::alloc::Global;
 
@@ -115,7 +115,8 @@ pub fn gather_by<B: Batches, S: Source>(
         (λ _. S.failed source.new ≡ S.failed source.old)
         (CountsSnapFault (S.failed source.old) (S.failed source.new)) }
 {
-    let Ok(mut block) = vec![in gathering.allocator(); 0u8; batches.size()] else {
+    let alloc = gathering.allocator();
+    let Ok(mut block) = first_room(alloc, batches) else {
         return Err(SnapFault::NoMemory);
     };
     let mut blocks = Blocks::onto(gathering);
@@ -123,10 +124,30 @@ pub fn gather_by<B: Batches, S: Source>(
     while seen <= SNAPSHOT_LIMIT {
         match read_block(batches, source, block.as_mut_slice(), &mut blocks)? {
             0 => return blocks.end(),
-            count => seen += count,
+            count => {
+                seen += count;
+                block = room_after(alloc, batches, block, count)?;
+            }
         }
     }
     Err(SnapFault::TooLong)
+}
+
+/// The room for what comes after so many bytes.
+fn room_after<B: Batches>(
+    alloc: Global,
+    batches: &B,
+    block: Vec<u8>,
+    count: usize,
+) -> Result<Vec<u8>, SnapFault>
+    requires { (0 < vec_len block) × (vec_len block ≤ 8388608) }
+    ensures room { IfOk result (λ next. (0 < vec_len next) × (vec_len next ≤ 8388608)) }
+    ensures fault { IfErr result (λ fault. fault ≡ SnapFault.NoMemory) }
+{
+    match next_room(alloc, batches, block, count) {
+        Ok(next) => Ok(next),
+        Err(_) => Err(SnapFault::NoMemory),
+    }
 }
 
 /// Reads once, and takes what came. 0 is the end.

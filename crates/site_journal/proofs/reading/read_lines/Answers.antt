@@ -30,7 +30,8 @@ loop-seen-init g c = record {
   exact = λ few. sym (ap length (append-nil header_line) ∙ header_length);
   has = subst (λ l. HasRead l c.new-reading.result.gathering c.new-reading.result.held.items c.new-reading.result.next)
       (sym (append-nil header_line)) c.new-reading.ensures;
-  some = refl;
+  some = c.in_ok-piece.ensures.0;
+  large = c.in_ok-piece.ensures.1;
   same = refl;
   counted = refl;
 }
@@ -47,7 +48,8 @@ loop-seen-preserved g c =
       has = subst
           (λ l. HasRead l c.read_block.new.self.gathering c.read_block.new.self.held.items c.read_block.new.self.next)
           (append_assoc header_line before.came read.0) (read.3 (header_line ++ before.came) before.has);
-      some = before.some;
+      some = c.in_ok-piece-in_default.ensures.0;
+      large = c.in_ok-piece-in_default.ensures.1;
       same = c.in_ok-count.ensures.same ∙ before.same;
       counted = c.in_ok-count.ensures.counted ∙ before.counted;
     }
@@ -78,7 +80,7 @@ returns-in-0-clause-found g c =
     let before = c.loop-seen.invariant in
     let exactly = before.exact (omega (arith, c.loop-seen-test.true)) in
     let read = c.in_ok-count.ensures.read in
-    let some : 0 < length c.as_mut_slice.result.now = omega (arith, c.as_mut_slice.ensures.len, before.some, c.in_ok-piece.ensures.len, c.size.ensures.0) in
+    let some : 0 < length c.as_mut_slice.result.now = omega (arith, c.as_mut_slice.ensures.len, before.some) in
     IfOk-weaker c.found.result _ _ (λ found finds. Consumes-whole (g.F.Feed.left c.args.feed.now) (g.F.Feed.left c.read_block.new.feed) (before.came ++ read.0)
     (λ text. IsFoundText (header_line ++ text) found)
     (Consumes-trans _ _ _ before.came read.0 before.read read.2)

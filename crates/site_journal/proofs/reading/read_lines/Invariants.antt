@@ -1,4 +1,4 @@
-use Rattle.std.proofs.Common.{◌≡◌, ◌≤◌, ◌+◌, ◌-◌, ◌++◌, List, ℕ, length, vec_len}
+use Rattle.std.proofs.Common.{◌≡◌, ◌<◌, ◌≤◌, ◌+◌, ◌-◌, ◌++◌, List, ℕ, length, vec_len}
 use Rattle.std.specs.Io.KnownBytes.{Consumes}
 use Rattle.site_journal.specs.Fault.{most_text}
 use Rattle.site_journal.specs.Reading.{HasRead}
@@ -13,7 +13,8 @@ invariant-loop-seen g l = record {
   seen : l.seen ≤ length (header_line ++ came);
   exact : l.seen ≤ most_text → l.seen ≡ length (header_line ++ came);
   has : HasRead (header_line ++ came) l.reading.gathering l.reading.held.items l.reading.next;
-  some : vec_len l.piece ≡ vec_len l.initial.piece;
+  some : 0 < vec_len l.piece;
+  large : vec_len l.piece ≤ 8388608;
   same : g.F.Feed.image l.feed ≡ g.F.Feed.image l.initial.feed;
   counted : g.F.Feed.failed l.feed ≡ g.F.Feed.failed l.initial.feed;
 }

@@ -15,8 +15,8 @@ loop-seen-init g c = record {
   has = c.onto-blocks.ensures.read;
   few = omega (arith, c.onto-blocks.ensures.count);
   most = omega arith;
-  some = omega (arith, c.in-Ok.ensures.len, c.size.ensures.0);
-  large = omega (arith, c.in-Ok.ensures.len, c.size.ensures.1);
+  some = c.in-Ok.ensures.0;
+  large = c.in-Ok.ensures.1;
   counted = refl;
 }
 
@@ -31,8 +31,8 @@ loop-seen-preserved g c =
       has = part.3 c.args.gathering before.came before.has;
       few = omega (arith, before.few, c.in_ok-count.ensures.few);
       most = omega (arith, c.loop-seen-test.true, c.in_ok-count.ensures.most, c.as_mut_slice.ensures.len, before.large);
-      some = before.some;
-      large = before.large;
+      some = c.in_ok-block-in_default-2.ensures.room.0;
+      large = c.in_ok-block-in_default-2.ensures.room.1;
       counted = c.in_ok-count.ensures.counted ∙ before.counted;
     }
 
