@@ -2,7 +2,7 @@
 
 use super::asserts::assert_found;
 use super::texts::{FIRST, MEMORY, SECOND, many_lines, text_of};
-use line_batches::{Batches, OneByOne, Pipeline, SideBySide};
+use line_batches::{Batches, OneByOne, Pipeline, SideBySide, first_room, next_room};
 use op_text::read_op;
 use replica_core::Gathering;
 use std::alloc::Global;
@@ -86,6 +86,24 @@ fn one_by_one_nothing_is_read_at_once(rt: HostRuntime) {
     assert_found(&rt, read_at_once(&OneByOne, alloc, lines.as_slice()), None);
     assert_found(&rt, OneByOne.size(), 65_536);
     assert_found(&rt, SideBySide::new(rt).size(), 8_388_608);
+}
+
+/// How many bytes the first room has, and the one after so many bytes came.
+fn rooms<B: Batches>(batches: &B, alloc: Global, count: usize) -> Option<(usize, usize)> {
+    let first = first_room(alloc, batches).ok()?;
+    let len = first.len();
+    Some((len, next_room(alloc, batches, first, count).ok()?.len()))
+}
+
+#[test]
+fn room_grows_once_it_was_filled(rt: HostRuntime) {
+    let (alloc, batches) = (rt.alloc(), SideBySide::new(rt));
+    let found = rooms(&batches, alloc, 1_048_575);
+    assert_found(&rt, found, Some((1_048_576, 1_048_576)));
+    let found = rooms(&batches, alloc, 1_048_576);
+    assert_found(&rt, found, Some((1_048_576, 8_388_608)));
+    let found = rooms(&OneByOne, alloc, 65_536);
+    assert_found(&rt, found, Some((65_536, 65_536)));
 }
 
 /// Takes the operation of a line that is read by itself.
