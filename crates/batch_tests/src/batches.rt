@@ -89,20 +89,20 @@ fn one_by_one_nothing_is_read_at_once(rt: HostRuntime) {
 }
 
 /// How many bytes the first room has, and the one after so many bytes came.
-fn rooms<B: Batches>(batches: &B, alloc: Global, count: usize) -> Option<(usize, usize)> {
+fn rooms<B: Batches>(batches: &B, alloc: Global, seen: u64) -> Option<(usize, usize)> {
     let first = first_room(alloc, batches).ok()?;
     let len = first.len();
-    Some((len, next_room(alloc, batches, first, count).ok()?.len()))
+    Some((len, next_room(alloc, batches, first, seen).ok()?.len()))
 }
 
 #[test]
-fn room_grows_once_it_was_filled(rt: HostRuntime) {
+fn room_grows_once_many_bytes_came(rt: HostRuntime) {
     let (alloc, batches) = (rt.alloc(), SideBySide::new(rt));
-    let found = rooms(&batches, alloc, 1_048_575);
+    let found = rooms(&batches, alloc, 8_388_607);
     assert_found(&rt, found, Some((1_048_576, 1_048_576)));
-    let found = rooms(&batches, alloc, 1_048_576);
+    let found = rooms(&batches, alloc, 8_388_608);
     assert_found(&rt, found, Some((1_048_576, 8_388_608)));
-    let found = rooms(&OneByOne, alloc, 65_536);
+    let found = rooms(&OneByOne, alloc, 8_388_608);
     assert_found(&rt, found, Some((65_536, 65_536)));
 }
 

@@ -9,6 +9,9 @@ use std::alloc::Global;
 /// How many bytes are read at once at first, at most: 1 MiB.
 const FIRST: usize = 1_048_576;
 
+/// After how many bytes as many are read at once as the batches want: 8 MiB.
+const MANY: u64 = 8_388_608;
+
 /// Room for the first bytes of a source: as much as the batches want, but 1 MiB at most, so that a short source costs
 /// little.
 pub fn first_room<B: Batches>(alloc: Global, batches: &B) -> Result<Vec<u8>, NoMemory>
@@ -17,19 +20,18 @@ pub fn first_room<B: Batches>(alloc: Global, batches: &B) -> Result<Vec<u8>, NoM
     zeros(alloc, batches.size().min(FIRST))
 }
 
-/// Room for the bytes that come after so many, which were read into this one: where they filled it, as much as the
-/// batches want.
+/// Room for the bytes that come after so many of a source: this one, and as much as the batches want once 8 MiB came.
 pub fn next_room<B: Batches>(
     alloc: Global,
     batches: &B,
     room: Vec<u8>,
-    count: usize,
+    seen: u64,
 ) -> Result<Vec<u8>, NoMemory>
     requires { (0 < vec_len room) × (vec_len room ≤ 8388608) }
     ensures { IfOk result (λ next. (0 < vec_len next) × (vec_len next ≤ 8388608)) }
 {
     let wanted = batches.size();
-    if count < room.len() || wanted <= room.len() {
+    if seen < MANY || wanted <= room.len() {
         return Ok(room);
     }
     zeros(alloc, wanted)

@@ -153,7 +153,7 @@ fn read_lines<B: Batches, F: Feed>(
             0 => return reading.found(batches, seen),
             count => {
                 seen = seen.saturating_add(count as u64);
-                piece = next_room(alloc, batches, piece, count)?;
+                piece = next_room(alloc, batches, piece, seen)?;
             }
         }
     }

@@ -126,7 +126,7 @@ pub fn gather_by<B: Batches, S: Source>(
             0 => return blocks.end(),
             count => {
                 seen += count;
-                block = room_after(alloc, batches, block, count)?;
+                block = room_after(alloc, batches, block, seen)?;
             }
         }
     }
@@ -138,13 +138,13 @@ fn room_after<B: Batches>(
     alloc: Global,
     batches: &B,
     block: Vec<u8>,
-    count: usize,
+    seen: usize,
 ) -> Result<Vec<u8>, SnapFault>
     requires { (0 < vec_len block) × (vec_len block ≤ 8388608) }
     ensures room { IfOk result (λ next. (0 < vec_len next) × (vec_len next ≤ 8388608)) }
     ensures fault { IfErr result (λ fault. fault ≡ SnapFault.NoMemory) }
 {
-    match next_room(alloc, batches, block, count) {
+    match next_room(alloc, batches, block, seen as u64) {
         Ok(next) => Ok(next),
         Err(_) => Err(SnapFault::NoMemory),
     }
