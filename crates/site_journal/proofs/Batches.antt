@@ -3,8 +3,8 @@ use Rattle.std.proofs.Common.{◌≡◌, ℕ, ◌+◌, List, [], ◌∷◌, ◌+
 use Rattle.std.proofs.Common.{append_assoc, append-nil, length-append}
 use Rattle.line_batches.specs.Batches.{ArePlainLines, IsBatch}
 use Rattle.review_ops.specs.Operation.{Operation}
-use Rattle.replica_core.specs.Journal.{all_arrived, arrived}
-use Rattle.replica_core.specs.JournalLaws.{all_arrived-append, all_arrived-push}
+use Rattle.replica_core.specs.Journal.{all_arrived}
+use Rattle.replica_core.specs.JournalLaws.{all_arrived-append}
 use Rattle.site_journal.specs.Reading.{HasRead}
 use Rattle.site_journal.specs.declared.reading.Reading.{Reading}
 use Rattle.site_journal.specs.Text.{SayOperations, header_line, whole_lines}

@@ -1,16 +1,15 @@
 -- How whole lines are taken whose operations were read at once.
-use Rattle.std.proofs.Common.{◌≡◌, ◌≤◌, ℕ, ◌+◌, List, [], ◌∷◌, ◌++◌, length, refl, sym, ap, subst, ◌∙◌, arith}
+use Rattle.std.proofs.Common.{◌≡◌, ℕ, ◌+◌, List, [], ◌∷◌, ◌++◌, length, refl, sym, ap, subst, ◌∙◌, arith}
 use Rattle.std.proofs.Common.{append_assoc, append-nil, length-append}
 use Rattle.std.specs.Prelude.{flat_map, codes}
 use Rattle.byte_ends.specs.Lines.{as_line, lines_of, without_cr}
 use Rattle.line_batches.specs.Batches.{ArePlainLines, IsBatch, IsPlainLine}
 use Rattle.review_ops.specs.Operation.{Operation}
-use Rattle.replica_core.specs.Journal.{all_arrived, arrived}
-use Rattle.replica_core.specs.JournalLaws.{all_arrived-append, all_arrived-push}
+use Rattle.replica_core.specs.Journal.{all_arrived}
+use Rattle.replica_core.specs.JournalLaws.{all_arrived-append}
 use Rattle.snapshot_text.specs.Progress.{HasCut, HasTaken, Stands}
 use Rattle.snapshot_text.specs.Snapshot.{AreOperationLines, BeginsWith, IsNoEndLine}
 use Rattle.snapshot_text.specs.declared.blocks.Cutter.{Cutter}
-use Rattle.snapshot_text.specs.declared.progress.Progress.{Progress}
 use Rattle.snapshot_text.specs.declared.progress.Stage.TheVariants.{Operations}
 use Rattle.snapshot_text.proofs.Cutting.{first_line}
 

@@ -1,8 +1,7 @@
-use Rattle.std.proofs.Common.{◌++◌, refl, rules, subst, sym}
+use Rattle.std.proofs.Common.{refl, rules, subst, sym}
 use Rattle.std.specs.Prelude.{IsTrue}
 use Rattle.std.proofs.lemmas.Result.{IfErr-weaker}
-use Rattle.byte_ends.specs.Lines.{lines_of}
-use Rattle.snapshot_text.specs.Progress.{HasCut, IsFaultIn}
+use Rattle.snapshot_text.specs.Progress.{HasCut}
 use Rattle.snapshot_text.proofs.Batches.{cut_batch}
 use Rattle.snapshot_text.proofs.blocks.Cutter.take_whole.Goals as goal
 
