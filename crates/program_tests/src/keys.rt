@@ -50,7 +50,7 @@ fn keys_are_judged_before_a_site_runs(rt: HostRuntime) {
     assert_found(&rt, make_keys(&rt, name, 0o600).is_ok(), true);
     let nobody = keyed("127.0.0.1", name, "nobody");
     let none = serve_keyed(rt, nobody, SystemFiles::new(rt), &keys);
-    assert_found(&rt, none, Way::Keys(KeyFault::NoKey, name));
+    assert_found(&rt, none, Way::Keys(KeyFault::NoKey, "nobody"));
     assert_found(&rt, is_removed(&rt, name), true);
     let gone = serve_keyed(rt, words, SystemFiles::new(rt), &keys);
     assert_found(&rt, gone, Way::Keys(KeyFault::ReadFault, name));

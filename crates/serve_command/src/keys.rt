@@ -35,21 +35,24 @@ pub fn judge_keys<'a, L: KeyReader>(reader: &L, words: &ServeWords<'a>) -> Resul
     let Some(name) = words.keys else {
         return Ok(());
     };
-    match reader.keys(name) {
-        Ok(keys) if has_all(&keys, words.peers.as_slice()) => Ok(()),
-        Ok(_) => Err(Ended::Keys(KeyFault::NoKey, name)),
-        Err(fault) => Err(Ended::Keys(fault, name)),
+    let keys = match reader.keys(name) {
+        Ok(keys) => keys,
+        Err(fault) => return Err(Ended::Keys(fault, name)),
+    };
+    match first_without_key(&keys, words.peers.as_slice()) {
+        Some(lacking) => Err(Ended::Keys(KeyFault::NoKey, lacking)),
+        None => Ok(()),
     }
 }
 
-/// Whether there is a key of each name that a peer is to be dialed with.
-fn has_all(keys: &Keys, peers: &[PeerAddress<'_>]) -> bool {
+/// The first name that a peer is to be dialed with of which there is no key.
+fn first_without_key<'a>(keys: &Keys, peers: &[PeerAddress<'a>]) -> Option<&'a str> {
     for peer in peers {
         if let PeerAddress::There { key, at: _ } = peer
             && keys.dialing(key.as_bytes()).is_none()
         {
-            return false;
+            return Some(*key);
         }
     }
-    true
+    None
 }

@@ -44,8 +44,8 @@ impl<R: Copy> SnapshotFile<R> {
 }
 
 impl<R: Files> SnapshotFile<R> {
-    /// Tries whether a record could be saved in the file's place, if one is named: it is no folder, and a new file can
-    /// be made beside it.
+    /// Tries whether a record could be saved in the file's place, if one is named: nothing is there but a regular file,
+    /// and a new file can be made beside it.
     pub fn try_out(&self) -> io::Result<()> {
         match &self.name {
             Some(name) => try_beside(&self.rt, self.alloc, name.as_str()),
@@ -65,10 +65,10 @@ impl<R: Files> Saves for SnapshotFile<R> {
     }
 }
 
-/// Makes a new file beside a file that is no folder, and removes it. What is there already, which a save replaces
-/// unless it is a folder, stays there: another site may be about to save.
+/// Makes a new file beside a regular file or none, and removes it. What is there already, which a save replaces unless it
+/// is a folder, stays there: another site may be about to save.
 fn try_beside<R: Files>(rt: &R, alloc: Global, name: &str) -> io::Result<()> {
-    refuse_folder(rt, name)?;
+    refuse_other_kind(rt, name)?;
     let beside = format!(in alloc; "{name}.new")?;
     match new_file(rt, beside.as_str()) {
         Ok(_new) => fs::remove_file(rt, beside.as_str()),
@@ -79,11 +79,20 @@ fn try_beside<R: Files>(rt: &R, alloc: Global, name: &str) -> io::Result<()> {
     }
 }
 
-/// Fails where a folder is there, in whose place no file can be put, and for the empty name, which no file has.
-fn refuse_folder<R: Files>(rt: &R, name: &str) -> io::Result<()> {
+/// Fails where something is there that is no regular file, and for the empty name, which no file has: no file can be put
+/// in a folder's place, and a device, a named pipe or a socket isn't to be replaced by one.
+fn refuse_other_kind<R: Files>(rt: &R, name: &str) -> io::Result<()> {
     if name.is_empty() {
         return Err(io::Error::from(ErrorKind::NotFound));
     }
+    match fs::metadata(rt, name) {
+        Ok(found) if !found.is_file() => Err(io::Error::from(ErrorKind::AlreadyExists)),
+        _ => Ok(()),
+    }
+}
+
+/// Fails where a folder is there.
+fn refuse_folder<R: Files>(rt: &R, name: &str) -> io::Result<()> {
     match fs::metadata(rt, name) {
         Ok(found) if found.is_dir() => Err(io::Error::from(ErrorKind::IsADirectory)),
         _ => Ok(()),
