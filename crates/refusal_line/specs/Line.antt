@@ -2,7 +2,8 @@
 use Rattle.std.specs.Prelude.{ℕ, List, ◌++◌, codes, decimal}
 use Rattle.refusal_line.specs.declared.part.Part.{Part}
 use Rattle.refusal_line.specs.declared.part.Part.TheVariants.{Check, Enqueue, Events, File, Gate, Item, Journal, Keys}
-use Rattle.refusal_line.specs.declared.part.Part.TheVariants.{Memory, Output, Peer, Script, Serve, Session, Snapshot}
+use Rattle.refusal_line.specs.declared.part.Part.TheVariants.{Memory, Output, Peer, Queries, Script, Serve}
+use Rattle.refusal_line.specs.declared.part.Part.TheVariants.{Session, Snapshot}
 
 -- the part's name
 abbrev pub name_of : Part → List ℕ
@@ -20,6 +21,7 @@ name_of Session = codes "session"
 name_of Peer = codes "peer"
 name_of Events = codes "events"
 name_of Enqueue = codes "enqueue"
+name_of Queries = codes "queries"
 name_of Keys = codes "keys"
 
 -- a name and a number, with a blank after each

@@ -33,6 +33,8 @@ pub enum Part {
     Events,
     /// Handing items to Zuul.
     Enqueue,
+    /// Planning a feed's queries.
+    Queries,
     /// The file of keys of sealed connections.
     Keys,
 }
@@ -59,6 +61,7 @@ impl Part {
             Part::Peer => "peer",
             Part::Events => "events",
             Part::Enqueue => "enqueue",
+            Part::Queries => "queries",
             Part::Keys => "keys",
         }
     }

@@ -1,0 +1,11 @@
+pub mod Schedule
+pub mod Marks
+pub mod Plan
+pub mod Giving
+pub mod Ending
+pub mod Stepping
+pub mod Line
+pub mod Fault
+pub mod Notices
+pub mod Running
+pub mod Keeping
