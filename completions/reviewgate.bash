@@ -1,6 +1,6 @@
 # Completes the commands and options of reviewgate in bash: source it, or put it into /etc/bash_completion.d.
 _reviewgate() {
-    local commands="ready why graph merge footers check simulate serve recover events enqueue help"
+    local commands="ready why graph merge footers check simulate serve recover events queries enqueue help"
     local word=${COMP_WORDS[COMP_CWORD]} before=${COMP_WORDS[COMP_CWORD - 1]} command=${COMP_WORDS[1]} words=""
     if [ "$COMP_CWORD" -eq 1 ]; then
         words="$commands --help --version"
@@ -16,6 +16,7 @@ _reviewgate() {
             events) words="--to --keys --query --complete --project --projects --gate --help" ;;
             footers) words="--change --json --help" ;;
             graph) words="--around --help" ;;
+            queries) words="--every --gather --pause --help" ;;
             ready) words="--item --json --help" ;;
             recover) words="--without --until --help" ;;
             serve)

@@ -3,10 +3,10 @@ use Rattle.std.proofs.Common.{◌≡◌, ◌∙◌, ap, sym, subst, inr, List, O
 use Rattle.std.specs.Str.{bytes_eq}
 use Rattle.command_tree.specs.Matching.{AreFaultlessWords, Matched, Row, Text, matched_of}
 use Rattle.command_line.specs.declared.asked.Asked.{Asked}
-use Rattle.command_line.specs.declared.asked.Asked.TheVariants.{Enqueue, Events, Help, NoMemory, Recover, Run, Serve}
-use Rattle.command_line.specs.declared.asked.Asked.TheVariants.{Usage, Version}
+use Rattle.command_line.specs.declared.asked.Asked.TheVariants.{Enqueue, Events, Help, NoMemory, Queries, Recover}
+use Rattle.command_line.specs.declared.asked.Asked.TheVariants.{Run, Serve, Usage, Version}
 use Rattle.command_line.specs.Asking.{WordsAsk, IsAskedByWords, IsNothing, Means, Name, ArgumentsSay, check, enqueue, events, footers, graph, merge}
-use Rattle.command_line.specs.Asking.{ready, recover, serve, simulate, text_of, why}
+use Rattle.command_line.specs.Asking.{queries, ready, recover, serve, simulate, text_of, why}
 use Rattle.command_line.specs.Values.{Finds}
 
 -- ---- no two commands have one text
@@ -20,6 +20,7 @@ command_of text =
     else if bytes_eq text (codes "simulate") then Some simulate
     else if bytes_eq text (codes "serve") then Some serve else if bytes_eq text (codes "recover") then Some recover
     else if bytes_eq text (codes "events") then Some events
+    else if bytes_eq text (codes "queries") then Some queries
     else if bytes_eq text (codes "enqueue") then Some enqueue else None
 
 command_of_text : (name : Name) → command_of (text_of name) ≡ Some name
@@ -33,6 +34,7 @@ command_of_text simulate = refl
 command_of_text serve = refl
 command_of_text recover = refl
 command_of_text events = refl
+command_of_text queries = refl
 command_of_text enqueue = refl
 
 same_name : (one other : Name) → text_of one ≡ text_of other → one ≡ other
@@ -74,6 +76,8 @@ asks_meant words matched (Recover journal) faultless same means =
     (faultless, subst (λ m. IsAskedByWords m (Recover journal)) (sym same) means)
 asks_meant words matched (Events feed) faultless same means =
     (faultless, subst (λ m. IsAskedByWords m (Events feed)) (sym same) means)
+asks_meant words matched (Queries planning) faultless same means =
+    (faultless, subst (λ m. IsAskedByWords m (Queries planning)) (sym same) means)
 asks_meant words matched (Enqueue handing) faultless same means =
     (faultless, subst (λ m. IsAskedByWords m (Enqueue handing)) (sym same) means)
 asks_meant words matched (Help text) faultless same means = absurd means

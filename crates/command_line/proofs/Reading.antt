@@ -11,13 +11,14 @@ use Rattle.std.proofs.lemmas.Option.{slice_get-get_or}
 use Rattle.lattice_core.specs.ZipLaws.{AllZip-at}
 use Rattle.command_tree.specs.Matching.{Row, Text, first_of}
 use Rattle.command_line.specs.declared.asked.Asked.{Asked}
-use Rattle.command_line.specs.declared.asked.Asked.TheVariants.{Events, Recover, Run, Serve}
+use Rattle.command_line.specs.declared.asked.Asked.TheVariants.{Events, Queries, Recover, Run, Serve}
 use Rattle.command_line.specs.declared.asked.Command.TheVariants.{Footers, Ready, ReadyItem, Why}
 use Rattle.command_line.specs.declared.asked.EventWords.{EventWords}
+use Rattle.command_line.specs.declared.asked.QueryWords.{QueryWords}
 use Rattle.command_line.specs.declared.asked.RecoverWords.{RecoverWords}
 use Rattle.command_line.specs.declared.asked.ServeWords.{ServeWords}
-use Rattle.command_line.specs.Asking.{AreFeedOptions, AreOptions, ArgumentsSay, IsRecovery, events, footers, has_repeat}
-use Rattle.command_line.specs.Asking.{ready, recover, serve, why}
+use Rattle.command_line.specs.Asking.{AreFeedOptions, AreOptions, ArgumentsSay, IsPlanning, IsRecovery, events, footers}
+use Rattle.command_line.specs.Asking.{has_repeat, queries, ready, recover, serve, why}
 use Rattle.command_line.specs.Values.{Finds, HasArgument, GivesAny, GivesItem, GivesNumber, ItemIsNamed, NamesRow}
 use Rattle.command_line.specs.Values.{GivesAnyItem, GivesHosts, GivesItemAt, GivesPaths}
 use Rattle.command_line.specs.Values.{Writes, is_comma}
@@ -147,6 +148,11 @@ pub no_events : (rows : List Row) → ((words : EventWords) → ¬ AreFeedOption
     → ¬ ArgumentsSay events rows asked
 no_events rows none (Events words) says = none words says.0
 no_events rows none asked says = says
+
+pub no_queries : (rows : List Row) → ((words : QueryWords) → ¬ IsPlanning rows words) → (asked : Asked)
+    → ¬ ArgumentsSay queries rows asked
+no_queries rows none (Queries words) says = none words says
+no_queries rows none asked says = says
 
 -- ---- those of the texts that pass a test
 

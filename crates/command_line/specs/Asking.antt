@@ -9,8 +9,8 @@ use Rattle.command_tree.specs.Matching.{Text, all_of, first_of, matched_of}
 use Rattle.command_line.specs.declared.asked.Answer.{Answer}
 use Rattle.command_line.specs.declared.asked.Answer.TheVariants.{Complete, Query, Stream}
 use Rattle.command_line.specs.declared.asked.Asked.{Asked}
-use Rattle.command_line.specs.declared.asked.Asked.TheVariants.{Enqueue, Events, Help, NoMemory, Recover, Run, Serve}
-use Rattle.command_line.specs.declared.asked.Asked.TheVariants.{Usage, Version}
+use Rattle.command_line.specs.declared.asked.Asked.TheVariants.{Enqueue, Events, Help, NoMemory, Queries, Recover}
+use Rattle.command_line.specs.declared.asked.Asked.TheVariants.{Run, Serve, Usage, Version}
 use Rattle.command_line.specs.declared.asked.Command.TheVariants.{Check, Footers, Graph, Merge, Ready, Simulate}
 use Rattle.command_line.specs.declared.asked.Command.TheVariants.{ReadyItem, Why}
 use Rattle.command_line.specs.declared.asked.Detail.{Detail}
@@ -21,6 +21,7 @@ use Rattle.command_line.specs.declared.asked.OutputFormat.{OutputFormat}
 use Rattle.command_line.specs.declared.asked.OutputFormat.TheVariants as format
 use Rattle.command_line.specs.declared.asked.Printing.{Printing}
 use Rattle.command_line.specs.declared.asked.Printing.TheVariants.{Report, Changes, Nothing}
+use Rattle.command_line.specs.declared.asked.QueryWords.{QueryWords}
 use Rattle.command_line.specs.declared.asked.SocketMode.{SocketMode}
 use Rattle.command_line.specs.declared.asked.SocketMode.TheVariants.{Group, Owner}
 use Rattle.command_line.specs.declared.asked.RecoverWords.{RecoverWords}
@@ -135,6 +136,12 @@ abbrev pub IsFeed : List Row → EventWords → Type 0
 IsFeed rows words = AreFeedOptions rows words
     × GivesTexts rows (codes "project") (map string_bytes words.projects.items) × HasTarget rows × HasKeys rows
 
+-- the arguments ask for queries to be planned so
+pub record IsPlanning (rows : List Row) (words : QueryWords) : Type 0 where
+  pub every : GivesNumber rows (codes "every") 1 10080 words.every
+  pub gather : GivesNumber rows (codes "gather") 0 3600 words.gather
+  pub pause : GivesNumber rows (codes "pause") 0 3600 words.pause
+
 -- the arguments ask for items to be handed over so
 pub record IsHanding (rows : List Row) (words : EnqueueWords) : Type 0 where
   pub query : HasArgument rows (codes "QUERY") words.query.now
@@ -156,6 +163,7 @@ pub data Name : Type 0 where
   serve : Name
   recover : Name
   events : Name
+  queries : Name
   enqueue : Name
 
 abbrev pub text_of : Name → Text
@@ -169,6 +177,7 @@ text_of simulate = codes "simulate"
 text_of serve = codes "serve"
 text_of recover = codes "recover"
 text_of events = codes "events"
+text_of queries = codes "queries"
 text_of enqueue = codes "enqueue"
 
 -- how the answer is to be written
@@ -215,6 +224,7 @@ ArgumentsSay simulate rows (Run (Simulate command)) =
 ArgumentsSay serve rows (Serve words) = IsSite rows words
 ArgumentsSay recover rows (Recover words) = IsRecovery rows words
 ArgumentsSay events rows (Events words) = IsFeed rows words
+ArgumentsSay queries rows (Queries words) = IsPlanning rows words
 ArgumentsSay enqueue rows (Enqueue words) = IsHanding rows words
 ArgumentsSay name rows asked = ⊥
 

@@ -13,6 +13,8 @@ pub enum Asked<'a> {
     Recover(RecoverWords<'a>),
     /// To feed what Gerrit writes.
     Events(EventWords<'a>),
+    /// To plan a feed's queries.
+    Queries(QueryWords),
     /// To hand items to Zuul.
     Enqueue(EnqueueWords<'a>),
     /// The help text, for the output.
@@ -284,6 +286,17 @@ pub struct EventWords<'a> {
     pub projects_file: Option<&'a str>,
     /// The name of the gate file by which unknown changes are asked for; only where a site is named.
     pub gate: Option<&'a str>,
+}
+
+/// What a feed's queries are planned with.
+#[derive(Clone, Copy, Debug, PartialEq, Eq)]
+pub struct QueryWords {
+    /// How many minutes pass from one query of all changes to the next, from 1 to 10,080.
+    pub every: u64,
+    /// For how many seconds changes to be queried are gathered, from 0 to 3,600.
+    pub gather: u64,
+    /// How many seconds pass before a query that failed is asked again, from 0 to 3,600.
+    pub pause: u64,
 }
 
 /// What items are handed over with.

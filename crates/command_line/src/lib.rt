@@ -20,12 +20,13 @@ mod enqueues;
 mod feeds;
 mod files;
 mod numbers;
+mod queries;
 mod sites;
 mod words;
 
 pub use asked::{
     Answer, Asked, CheckCommand, Command, Detail, EnqueueWords, EventWords, FootersCommand,
-    GraphCommand, MergeCommand, OutputFormat, PageAddress, Printing, ReadyCommand,
+    GraphCommand, MergeCommand, OutputFormat, PageAddress, Printing, QueryWords, ReadyCommand,
     ReadyItemCommand, RecoverWords, ServeWords, SimulateCommand, SocketMode, Strictness,
     WhyCommand,
 };

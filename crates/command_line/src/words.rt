@@ -12,6 +12,7 @@ use super::feeds::{events_in, lacks_target};
 use super::files::{
     check_in, footers_in, graph_in, merge_in, ready_in, recover_in, simulate_in, why_in,
 };
+use super::queries::queries_in;
 use super::sites::{mode_in, printing_in, serve_in};
 use command_tree::{Parsed, Values, parse};
 use std::alloc::{AllocError, Global};
@@ -95,6 +96,7 @@ fn named<'a>(
         "serve" => serve_in(alloc, values),
         "recover" => recover_in(alloc, values),
         "events" => events_in(alloc, values),
+        "queries" => Ok(queries_in(values)),
         "enqueue" => Ok(enqueue_in(values)),
         _ => Ok(None),
     }

@@ -134,6 +134,14 @@ events_app =
     (with_rule (with_rule feeding_app (several_rule (codes "project"))) (option_rule (codes "projects")))
     (option_rule (codes "gate"))
 
+-- `queries [--every MINUTES] [--gather SECONDS] [--pause SECONDS]`
+abbrev pub queries_app : App
+queries_app =
+    with_rule
+    (with_rule (with_rule (new_app (codes "queries")) (number_with (codes "every") (codes "5") 1 10080))
+    (number_with (codes "gather") (codes "2") 0 3600))
+    (number_with (codes "pause") (codes "5") 0 3600)
+
 -- `enqueue QUERY [--tenant TENANT] [--pipeline NAME] [--template TEXT] ..`: what is written for an item
 abbrev pub templated_app : App
 templated_app =
@@ -168,7 +176,9 @@ reading_app =
 abbrev pub program : App
 program =
     with_subcommand
+    (with_subcommand
     (with_subcommand (with_subcommand (with_subcommand reading_app serve_app.top) recover_app.top) events_app.top)
+    queries_app.top)
     enqueue_app.top
 
 -- a command that clap reads so, with no argument that its subcommands take

@@ -80,6 +80,27 @@ pub const IDLE: Number = Number {
     most: u64::MAX,
 };
 
+/// How many minutes pass from one query of all changes to the next.
+pub const EVERY: Number = Number {
+    name: "every",
+    least: 1,
+    most: 10_080,
+};
+
+/// For how many seconds changes to be asked for are gathered.
+pub const GATHER: Number = Number {
+    name: "gather",
+    least: 0,
+    most: 3_600,
+};
+
+/// How many seconds pass before a query that failed is asked again.
+pub const QUERY_PAUSE: Number = Number {
+    name: "pause",
+    least: 0,
+    most: 3_600,
+};
+
 /// The greatest time of an operation that is recovered.
 pub const UNTIL: Number = Number {
     name: "until",

@@ -23,12 +23,13 @@ mod enqueue_options;
 mod feed_options;
 mod parsing;
 mod program;
+mod query_options;
 mod site_options;
 mod values;
 
 pub use arguments::{
-    AROUND, CHANGE, CONNECTIONS, IDLE, Number, PAUSE, PORT, SESSIONS, SITE, SITES, START, UNTIL,
-    WORKERS,
+    AROUND, CHANGE, CONNECTIONS, EVERY, GATHER, IDLE, Number, PAUSE, PORT, QUERY_PAUSE, SESSIONS,
+    SITE, SITES, START, UNTIL, WORKERS,
 };
 pub use parsing::{Parsed, parse};
 pub use values::Values;

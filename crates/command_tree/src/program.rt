@@ -13,6 +13,7 @@ use super::arguments::{
 use super::building::Building;
 use super::enqueue_options::enqueue_command;
 use super::feed_options::events_command;
+use super::query_options::queries_command;
 use super::site_options::serve_command;
 use clap::{Arg, Command};
 use std::alloc::{AllocError, Global};
@@ -48,6 +49,7 @@ pub fn program<'a>(alloc: Global) -> Result<Command<'a>, AllocError>
         .with_command(recover_command(alloc));
     let feeding = serving
         .with_command(events_command(alloc))
+        .with_command(queries_command(alloc))
         .with_command(enqueue_command(alloc));
     feeding.command
 }

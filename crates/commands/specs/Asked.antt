@@ -1,7 +1,8 @@
 -- The effect of a parsed command line, and the exit status.
 use Rattle.std.specs.Prelude.{◌≡◌, ℕ, List, Option, Err, codes, string_bytes}
 use Rattle.command_line.specs.declared.asked.Asked.{Asked}
-use Rattle.command_line.specs.declared.asked.Asked.TheVariants.{Run, Serve, Recover, Events, Enqueue, Help, Version, Usage, NoMemory}
+use Rattle.command_line.specs.declared.asked.Asked.TheVariants.{Run, Serve, Recover, Events, Queries, Enqueue}
+use Rattle.command_line.specs.declared.asked.Asked.TheVariants.{Help, Version, Usage, NoMemory}
 use Rattle.console.specs.Console.{Contents, Records}
 use Rattle.console.specs.Printing.{Ended}
 use Rattle.console.specs.Showing.{ErrorOutput, Shows}
@@ -40,5 +41,7 @@ DoesAsked (Serve words) left files sites old new before after status = DoesBlame
 DoesAsked (Recover words) left files sites old new before after status =
     DoesBlame apart_text old new before after status
 DoesAsked (Events words) left files sites old new before after status = DoesBlame apart_text old new before after status
+DoesAsked (Queries words) left files sites old new before after status =
+    DoesBlame apart_text old new before after status
 DoesAsked (Enqueue words) left files sites old new before after status =
     DoesBlame apart_text old new before after status

@@ -1,5 +1,5 @@
-//! All commands except `serve`, `events`, `enqueue` and `recover`, under one law: the inputs are read and checked one
-//! after the other, and the answer is printed whole, or a proper prefix of it if the output failed.
+//! All commands except `serve`, `recover`, `events`, `queries` and `enqueue`, under one law: the inputs are read and
+//! checked one after the other, and the answer is printed whole, or a proper prefix of it if the output failed.
 //!
 //! Its tests are in the crate `command_tests`.
 //!

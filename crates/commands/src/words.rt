@@ -19,7 +19,7 @@ const APART: &str =
     "error: this command runs on the system's own sockets, clocks and files\n\nFor more information, try '--help'.\n";
 
 /// Parses the arguments after the program's name, and runs them, as `run_asked` does. It is the whole program except
-/// `serve`, `events`, `enqueue` and `recover`, which are usage errors here.
+/// `serve`, `recover`, `events`, `queries` and `enqueue`, which are usage errors here.
 pub fn run_words<S: AsStr, I: Source, O: Drain, E: Drain, N: Named>(
     alloc: Global,
     words: &[S],
@@ -40,8 +40,8 @@ pub fn run_words<S: AsStr, I: Source, O: Drain, E: Drain, N: Named>(
 }
 
 /// Runs a parsed command line: runs a command over files, as `run_command` does; prints help or the version, as
-/// `print_text` does; or reports a usage error, as `report_usage` does, or refused memory. `serve`, `events`, `enqueue`
-/// and `recover` are usage errors here. Returns the exit status.
+/// `print_text` does; or reports a usage error, as `report_usage` does, or refused memory. `serve`, `recover`, `events`,
+/// `queries` and `enqueue` are usage errors here. Returns the exit status.
 pub fn run_asked<I: Source, O: Drain, E: Drain, N: Named>(
     alloc: Global,
     asked: Asked<'_>,
@@ -65,6 +65,7 @@ pub fn run_asked<I: Source, O: Drain, E: Drain, N: Named>(
         Asked::Serve(_) => report_usage(APART, errors),
         Asked::Recover(_) => report_usage(APART, errors),
         Asked::Events(_) => report_usage(APART, errors),
+        Asked::Queries(_) => report_usage(APART, errors),
         Asked::Enqueue(_) => report_usage(APART, errors),
     }
 }

@@ -6,6 +6,7 @@ mod enqueue;
 mod events;
 mod keys;
 mod projects;
+mod queries;
 
 use byte_ends::{Drain, Ends, Source};
 use command_line::{Asked, EnqueueWords, RecoverWords, ServeWords, read_words};
@@ -17,6 +18,7 @@ use events::feed;
 use key_files::{KeyReader, SystemKeys};
 use keys::report_keys;
 use line_batches::SideBySide;
+use queries::plan;
 use record_pull::SystemFiles;
 use recover_command::{recover_named, show_journal_fault};
 use refusal_line::{Part, refusal_line};
@@ -72,13 +74,20 @@ fn main(rt: HostRuntime) -> ExitCode {
             &mut Ends::new(io::writer(&rt)),
             &mut Ends::new(rt.stderr()),
         ),
+        Asked::Queries(words) => plan(
+            alloc,
+            words,
+            &mut Ends::new(rt.reader()),
+            &mut Ends::new(io::writer(&rt)),
+            &mut Ends::new(rt.stderr()),
+        ),
         Asked::Enqueue(words) => hand_over(rt, alloc, words, &mut Ends::new(rt.stderr())),
         asked => run(rt, alloc, asked, &mut Ends::new(rt.stderr())),
     };
     ExitCode::from(status)
 }
 
-/// Runs every command line except `serve`, `events`, `enqueue` and `recover`. Returns the exit status.
+/// Runs every command line except `serve`, `recover`, `events`, `queries` and `enqueue`. Returns the exit status.
 fn run<R, E>(rt: R, alloc: Global, asked: Asked<'_>, errors: &mut E) -> u8
 where
     R: Input + Print + Files + Net<Stream = TcpStream> + Clock + Threads,

@@ -9,6 +9,8 @@ mod enqueues;
 #[cfg(test)]
 mod feeds;
 #[cfg(test)]
+mod queries;
+#[cfg(test)]
 mod sites;
 #[cfg(test)]
 mod texts;

@@ -56,6 +56,7 @@ Commands:
   serve     Runs a site: answers sessions, pulls from peers, prints the report whenever it changes
   recover   Prints the snapshot of a journal file, without a line that a crash tore
   events    Turns Gerrit's events and query answers into session lines, or sends them to a site
+  queries   Says which changes a feed queries Gerrit for next, by what feeds ask for and how queries ended
   enqueue   Writes a command for each item that became ready in reports on standard input
   help      Print this message or the help of the given subcommand(s)
 
@@ -65,7 +66,7 @@ Options:
 ";
 
 /// Help of each command.
-const HELP: [(&str, &str); 11] = [
+const HELP: [(&str, &str); 12] = [
     (
         "ready",
         "Prints which items may be enqueued, and why each other one waits
@@ -241,6 +242,19 @@ Options:
 ",
     ),
     (
+        "queries",
+        "Says which changes a feed queries Gerrit for next, by what feeds ask for and how queries ended
+
+Usage: reviewgate queries [OPTIONS]
+
+Options:
+      --every <MINUTES>   Minutes from one query of all changes to the next, 1 to 10080 [default: 5]
+      --gather <SECONDS>  Seconds in which changes to be queried are gathered, 0 to 3600 [default: 2]
+      --pause <SECONDS>   Seconds before a query that failed is asked again, 0 to 3600; those of the query of all changes double with each failure, up to --every [default: 5]
+  -h, --help              Print help
+",
+    ),
+    (
         "enqueue",
         "Writes a command for each item that became ready in reports on standard input
 
@@ -294,10 +308,10 @@ fn the_version_names_the_toolchain(rt: HostRuntime) -> Result<(), Fail> {
 }
 
 /// Words that name no command, or lack a file or have too many.
-const COMMANDS: [(&str, &str); 20] = [
+const COMMANDS: [(&str, &str); 21] = [
     (
         "",
-        "error: 'reviewgate' requires a subcommand but one was not provided\n  [subcommands: ready, why, graph, merge, footers, check, simulate, serve, recover, events, enqueue, help]\n\nUsage: reviewgate <COMMAND>",
+        "error: 'reviewgate' requires a subcommand but one was not provided\n  [subcommands: ready, why, graph, merge, footers, check, simulate, serve, recover, events, queries, enqueue, help]\n\nUsage: reviewgate <COMMAND>",
     ),
     (
         "help nothing",
@@ -375,10 +389,14 @@ const COMMANDS: [(&str, &str); 20] = [
         "events x",
         "error: unexpected argument 'x' found\n\nUsage: reviewgate events [OPTIONS]",
     ),
+    (
+        "queries x",
+        "error: unexpected argument 'x' found\n\nUsage: reviewgate queries [OPTIONS]",
+    ),
 ];
 
 /// Options that there are none of, that lack a value, or that are there twice.
-const OPTIONS: [(&str, &str); 14] = [
+const OPTIONS: [(&str, &str); 17] = [
     (
         "events --query --complete --to 1",
         "error: the argument '--query' cannot be used with '--complete'",
@@ -432,10 +450,22 @@ const OPTIONS: [(&str, &str); 14] = [
         "events --to",
         "error: a value is required for '--to <ADDRESS>' but none was supplied",
     ),
+    (
+        "queries --minutes 5",
+        "error: unexpected argument '--minutes' found\n\nUsage: reviewgate queries [OPTIONS]",
+    ),
+    (
+        "queries --every",
+        "error: a value is required for '--every <MINUTES>' but none was supplied",
+    ),
+    (
+        "queries --pause 1 --pause 2",
+        "error: the argument '--pause <SECONDS>' cannot be used multiple times\n\nUsage: reviewgate queries [OPTIONS]",
+    ),
 ];
 
 /// Numbers one beyond their limits, and what is no number, or no word of an option.
-const NUMBERS: [(&str, &str); 45] = [
+const NUMBERS: [(&str, &str); 50] = [
     (
         "why g s x",
         "error: invalid value 'x' for '<CHANGE[,SET]>': CHANGE and SET are numbers from 0 to 4294967295",
@@ -615,6 +645,26 @@ const NUMBERS: [(&str, &str); 45] = [
     (
         "events --to x",
         "error: invalid value 'x' for '--to <ADDRESS>': a port from 1 to 65535, the path of a Unix socket, which has a slash, or NAME@HOST:PORT",
+    ),
+    (
+        "queries --every 0",
+        "error: invalid value '0' for '--every <MINUTES>': 0 is not in 1..=10080",
+    ),
+    (
+        "queries --every 10081",
+        "error: invalid value '10081' for '--every <MINUTES>': 10081 is not in 1..=10080",
+    ),
+    (
+        "queries --gather 3601",
+        "error: invalid value '3601' for '--gather <SECONDS>': 3601 is not in 0..=3600",
+    ),
+    (
+        "queries --gather -1",
+        "error: unexpected argument '-1' found\n\nUsage: reviewgate queries [OPTIONS]",
+    ),
+    (
+        "queries --pause 3601",
+        "error: invalid value '3601' for '--pause <SECONDS>': 3601 is not in 0..=3600",
     ),
 ];
 

@@ -1,6 +1,7 @@
 use Rattle.std.proofs.lemmas.Result.{IfOk-weaker}
 use Rattle.command_tree.specs.Rows.{rows_in}
-use Rattle.command_line.specs.Asking.{check, enqueue, events, footers, graph, merge, ready, recover, serve, simulate, why}
+use Rattle.command_line.specs.Asking.{check, enqueue, events, footers, graph, merge, queries, ready, recover, serve}
+use Rattle.command_line.specs.Asking.{simulate, why}
 use Rattle.command_line.proofs.Naming.{found_named}
 use Rattle.command_line.proofs.words.named.Goals as goal
 
@@ -46,6 +47,10 @@ pub returns-in-events : goal.returns-in-events
 returns-in-events c =
     IfOk-weaker c.events_in.result _ _
     (λ read. found_named events c.args.name.now (rows_in c.args.values.now) read c.in-events.is) c.events_in.ensures
+
+pub returns-in-queries : goal.returns-in-queries
+returns-in-queries c =
+    found_named queries c.args.name.now (rows_in c.args.values.now) c.queries_in.result c.in-queries.is c.queries_in.ensures
 
 pub returns-in-enqueue : goal.returns-in-enqueue
 returns-in-enqueue c =

@@ -14,6 +14,10 @@ pub returns-in-Events : goal.returns-in-Events
 returns-in-Events g c =
     rw c.in-Events.is (c.report_usage-in-Events.ensures.shown, c.report_usage-in-Events.ensures.status, refl)
 
+pub returns-in-Queries : goal.returns-in-Queries
+returns-in-Queries g c =
+    rw c.in-Queries.is (c.report_usage-in-Queries.ensures.shown, c.report_usage-in-Queries.ensures.status, refl)
+
 pub returns : goal.returns
 returns g c =
     rw c.in-Enqueue.is (c.report_usage-in-Enqueue.ensures.shown, c.report_usage-in-Enqueue.ensures.status, refl)
