@@ -1158,8 +1158,9 @@ class Offered(Feed):
         patches = [deed for deed in patches if isinstance(deed, Deed) and deed.kind == "patchset"]
         asked = set()
         if parsed.part == "event":
+            asked = {child for found in parsed.found for child in self.left_behind(found)}
             patches = [deed for deed in patches if (deed.change, deed.set) not in self.state.sets]
-            asked = {deed.change for deed in patches}
+            asked |= {deed.change for deed in patches}
             asked |= {child for deed in patches if deed.set > 1 for child in self.children(deed.change)}
             asked |= {found.change for found in parsed.found if self.is_return(found) or self.is_late(found)}
             asked |= {found.deed.change for found in parsed.found if self.is_doubtful(found)}
@@ -1170,6 +1171,13 @@ class Offered(Feed):
         for deed in patches:
             asked |= {name for name in self.names(deed) if not self.is_known(name)}
         return sorted(asked)
+
+    def left_behind(self, found) -> list:
+        """What a patch set that an event shows, but for the first, may outdate, unless it is replaced."""
+        if not isinstance(found, Shown) or found.deed.kind != "patchset" or found.deed.set <= 1:
+            return []
+        is_replaced = found.deed.set < self.state.current.get(found.deed.change, 0)
+        return [] if is_replaced else self.children(found.deed.change)
 
     def is_return(self, found) -> bool:
         is_restore = isinstance(found, Deed) and found.kind == "restore"
