@@ -29,8 +29,8 @@ use Rattle.gerrit_events.specs.Values.{text_in, number_value, vote_value, user_i
 pub data Claim : Type 0 where
   -- a body, good or not
   drafts : Deed → Claim
-  -- a patch set, good or not, as an event shows it that isn't about it, or whose parents this run doesn't know; or that
-  -- there is no vote, where the event doesn't say that it was taken back
+  -- a patch set, good or not, as an event shows it, which can't tell which change its parent is; or that there is no
+  -- vote, where the event doesn't say that it was taken back
   shows : Deed → Claim
   -- all votes of a patch set
   lists : Listing → Claim

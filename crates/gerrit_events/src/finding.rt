@@ -9,9 +9,9 @@ use review_ops::Body;
 pub enum Finding {
     /// A valid body, with its label in lower case.
     Brings(Body),
-    /// A patch set that an event about something else shows, so its message may be that of a later patch set; or one
-    /// none of whose parents this run knows. If the record has it, at most its parent is new. Or the withdrawal of a vote
-    /// that an event shows as 0, without saying that it was taken back.
+    /// A patch set that an event shows: its message may be that of a later one, and which change its parent is only
+    /// Gerrit can say. If the record has it, at most its parent is new. Or the withdrawal of a vote that an event shows as
+    /// 0, without saying that it was taken back.
     Shows(Body),
     /// All votes of a patch set.
     Lists(Listing),
