@@ -10,7 +10,8 @@ use Rattle.enqueue_lines.specs.declared.template.Field.{Field}
 use Rattle.enqueue_lines.specs.declared.shell.ShellState.{ShellState}
 use Rattle.enqueue_lines.specs.declared.shell.ShellState.TheVariants.{Bare}
 use Rattle.enqueue_lines.specs.Shell.{after_bytes}
-use Rattle.enqueue_lines.specs.Template.{AreBareFrom, IsPlainPart, IsRefusedTemplate, IsWrongBrace, Part, Reads, field}
+use Rattle.enqueue_lines.specs.Template.{AreBareFrom, IsPlainPart, IsRefusedTemplate, IsWrongBrace, Part, IsReadingOf}
+use Rattle.enqueue_lines.specs.Template.{field}
 use Rattle.enqueue_lines.specs.Template.{field_spelling, name_of, spelling, spells, text, with_field, with_text}
 use Rattle.enqueue_lines.specs.Texts.{LacksByte}
 use Rattle.enqueue_lines.proofs.Quotes.{after_append, bare_more}
@@ -68,7 +69,7 @@ plain_field parts more plain named all lacks made =
 
 -- the text after the last field is the last piece
 pub reads_rest : (whole rest : List ℕ) (parts more : List Part) → whole ≡ spells parts ++ rest → All IsPlainPart parts
-    → AreBareFrom Bare parts → LacksByte 123 rest → more ≡ with_text parts rest → Reads whole more
+    → AreBareFrom Bare parts → LacksByte 123 rest → more ≡ with_text parts rest → IsReadingOf whole more
 reads_rest whole rest parts more is all bare lacks made = record {
   spelled = is ∙ sym (ap spells made ∙ spells_text parts rest);
   plain = subst (All IsPlainPart) (sym made) (plain_text parts rest all lacks);
@@ -76,7 +77,8 @@ reads_rest whole rest parts more is all bare lacks made = record {
 }
 
 -- a text before a brace that isn't right is one more piece
-pub refused_at : (whole rest plain after : List ℕ) (parts : List Part) (fault : TemplateFault) → whole ≡ spells parts ++ rest
+pub refused_at : (whole rest plain after : List ℕ) (parts : List Part) (fault : TemplateFault)
+    → whole ≡ spells parts ++ rest
     → rest ≡ plain ++ codes "{" ++ after → All IsPlainPart parts → AreBareFrom Bare parts
     → after_bytes Bare (spells parts) ≡ Bare → LacksByte 123 plain → IsWrongBrace (after_bytes Bare plain) after fault
     → IsRefusedTemplate whole fault

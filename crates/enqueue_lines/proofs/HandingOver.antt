@@ -12,7 +12,7 @@ use Rattle.std.proofs.lemmas.List.Elements.{All-push}
 use Rattle.line_reader.specs.Lines.{HasNoLf}
 use Rattle.state_core.specs.declared.item.Item.{Item}
 use Rattle.enqueue_lines.specs.Ending.{BreaksGroup, BreaksItems, EndsEarly, Gives, HandsGroup, LacksLine, StopsAt}
-use Rattle.enqueue_lines.specs.Ending.{next_number}
+use Rattle.enqueue_lines.specs.Ending.{number_after}
 use Rattle.enqueue_lines.specs.Ending.{site_line_limit}
 use Rattle.enqueue_lines.specs.Groups.{Fits, ReadySoFar, GroupItems, fresh, ready_first, ready_after, items_of_lines}
 use Rattle.enqueue_lines.specs.Printing.{Pipe, item_line, item_lines, report_line, report_lines}
@@ -130,7 +130,7 @@ lines_counted limit bytes number count unread reads fault counted breaks = recor
   says = breaks.says;
   cause = elim breaks.cause [
     | inl lacks ↦
-        let same : next_number (number + length breaks.lines) ≡ next_number (count + length breaks.lines) = omega (arith, counted) in
+        let same : number_after (number + length breaks.lines) ≡ number_after (count + length breaks.lines) = omega (arith, counted) in
         inl (subst (λ n. LacksLine limit breaks.after n unread reads fault) same lacks)
     | inr many ↦ inr (many.0, omega (arith, counted, many.1), many.2)
   ];

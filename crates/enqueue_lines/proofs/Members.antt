@@ -13,21 +13,21 @@ use Rattle.std.specs.Cmp.{eq_by_cmp_equiv, tied_itself}
 use Rattle.state_core.specs.declared.item.Item.{Item}
 use Rattle.state_core.specs.Items.{item_cmp}
 use Rattle.state_core.specs.ItemLaws.{items_exact, items_total}
-use Rattle.report_changes.specs.Listing.{same_item}
+use Rattle.report_changes.specs.Listing.{is_same_item}
 use Rattle.report_changes.specs.Searching.{same_is_one, item_is_itself}
 use Rattle.enqueue_lines.specs.Groups.{AreNamedOnce}
 
 apart_ways : (item : Item) (other : Item) (r : Ordering) → item_cmp item other ≡ r
-    → is_lt (ordering_reverse r) ≡ false → same_item item other ≡ false → r ≡ Less
+    → is_lt (ordering_reverse r) ≡ false → is_same_item item other ≡ false → r ≡ Less
 apart_ways item other Less is behind differ = refl
 apart_ways item other Equal is behind differ =
     let same : item ≡ other = items_exact item other is in
-    let alike : same_item item other ≡ true = subst (λ o. same_item item o ≡ true) same (item_is_itself item) in
+    let alike : is_same_item item other ≡ true = subst (λ o. is_same_item item o ≡ true) same (item_is_itself item) in
     absurd (false≢true (sym differ ∙ alike))
 apart_ways item other Greater is behind differ = absurd (false≢true (sym behind))
 
 -- of items in order, each of which differs from the next, each comes before the next
-pub comes_before : (item other : Item) → is_lt (item_cmp other item) ≡ false → same_item item other ≡ false
+pub comes_before : (item other : Item) → is_lt (item_cmp other item) ≡ false → is_same_item item other ≡ false
     → item_cmp item other ≡ Less
 comes_before item other behind differ =
     apart_ways item other (item_cmp item other) refl
@@ -40,7 +40,7 @@ all_apart ordered d rising =
     IsDistinct-from_sorted item_cmp ordered (sorted_from_all_adjacent items_total ordered d rising)
 
 pub not_apart : (ordered : List Item) (i j : ℕ) (d : Item) → i < j → j < length ordered
-    → same_item (get_or ordered i d) (get_or ordered j d) ≡ true → ¬ AreNamedOnce ordered
+    → is_same_item (get_or ordered i d) (get_or ordered j d) ≡ true → ¬ AreNamedOnce ordered
 not_apart ordered i j d before within same apart =
     let one : get_or ordered i d ≡ get_or ordered j d = same_is_one (get_or ordered i d) (get_or ordered j d) same in
     let differ = apart_from_distinct (eq_by_cmp item_cmp) ordered i j d apart before within in
@@ -50,7 +50,8 @@ not_apart ordered i j d before within same apart =
 
 pub moved_apart : (items ordered : List Item) → IsPermutation items ordered → AreNamedOnce items → AreNamedOnce ordered
 moved_apart items ordered moved apart =
-    IsDistinct-IsPermutation (eq_by_cmp item_cmp) (λ x y. (eq_by_cmp_equiv items_total).symm x y) items ordered moved apart
+    IsDistinct-IsPermutation (eq_by_cmp item_cmp)
+    (λ x y. (eq_by_cmp_equiv items_total).symm x y) items ordered moved apart
 
 pub back_apart : (items ordered : List Item) → IsPermutation items ordered → AreNamedOnce ordered → AreNamedOnce items
 back_apart items ordered moved apart = moved_apart ordered items (IsPermutation-sym items ordered moved) apart
@@ -65,12 +66,13 @@ same_default (x ∷ items) (suc i) d e within = same_default items i d e (omega 
 
 -- the next of items in order comes later, where it differs
 pub next_less : (items : List Item) (index k : ℕ) (d e f : Item) → 1 ≤ index → index < length items → k + 1 ≡ index
-    → IsSorted item_cmp items → same_item (get_or items (index - 1) e) (get_or items index f) ≡ false
+    → IsSorted item_cmp items → is_same_item (get_or items (index - 1) e) (get_or items index f) ≡ false
     → item_cmp (get_or items k d) (get_or items (k + 1) d) ≡ Less
 next_less items index k d e f some within next sorted differ =
     let before : index - 1 ≡ k = omega (arith, next) in
     let one : get_or items (index - 1) e ≡ get_or items k d = ap (λ n. get_or items n e) before ∙ same_default items k e d (omega (arith, within, next)) in
     let two : get_or items index f ≡ get_or items (k + 1) d = same_default items index f d within ∙ ap (λ n. get_or items n d) (sym next) in
-    let apart : same_item (get_or items k d) (get_or items (k + 1) d) ≡ false =
-    subst (λ o. same_item (get_or items k d) o ≡ false) two (subst (λ o. same_item o (get_or items index f) ≡ false) one differ) in
-    comes_before (get_or items k d) (get_or items (k + 1) d) (sorted k d (omega arith) (omega (arith, within, next))) apart
+    let apart : is_same_item (get_or items k d) (get_or items (k + 1) d) ≡ false =
+    subst (λ o. is_same_item (get_or items k d) o ≡ false) two (subst (λ o. is_same_item o (get_or items index f) ≡ false) one differ) in
+    comes_before (get_or items k d) (get_or items (k + 1) d)
+    (sorted k d (omega arith) (omega (arith, within, next))) apart

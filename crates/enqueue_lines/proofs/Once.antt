@@ -6,12 +6,12 @@ use Rattle.std.proofs.lemmas.Bool.{false≢true}
 use Rattle.lattice_core.specs.MemberLaws.{Contains-of_filter, Contains-none}
 use Rattle.std.proofs.lemmas.List.Elements.{Contains-append_cases}
 use Rattle.state_core.specs.declared.item.Item.{Item}
-use Rattle.report_changes.specs.Listing.{same_item}
+use Rattle.report_changes.specs.Listing.{is_same_item}
 use Rattle.enqueue_lines.specs.Groups.{ReadySoFar, StaysReady, fresh, handed_over, is_among, ready_first}
 use Rattle.report_changes.specs.Searching.{finds, item_is_itself}
 
 is_had : (items : List Item) (item : Item) → Contains items item → is_among items item ≡ true
-is_had items item there = finds (same_item item) items item there (item_is_itself item)
+is_had items item there = finds (is_same_item item) items item there (item_is_itself item)
 
 or_true : (p q : Bool) → p ≡ true → not (p || q) ≡ true → false ≡ true
 or_true true q one none = none

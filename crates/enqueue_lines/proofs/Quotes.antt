@@ -6,7 +6,7 @@ use Rattle.std.specs.List.{list_all}
 use Rattle.std.proofs.lemmas.List.Concat.{flat_map-append}
 use Rattle.enqueue_lines.specs.Quoting.{is_bare_byte, is_plain, quoted, within_quotes}
 use Rattle.enqueue_lines.specs.Shell.{after_byte, after_bytes}
-use Rattle.enqueue_lines.specs.Template.{AreBareFrom, Given, Part, Reads, ValuesStandBare, field, field_spelling}
+use Rattle.enqueue_lines.specs.Template.{AreBareFrom, Given, Part, IsReadingOf, ValuesStandBare, field, field_spelling}
 use Rattle.enqueue_lines.specs.Template.{field_value, filled, spelling, spells, text, with_field}
 use Rattle.enqueue_lines.specs.declared.shell.ShellState.{ShellState}
 use Rattle.enqueue_lines.specs.declared.shell.ShellState.TheVariants.{AfterBackslash, AfterDollar, Bare, Double}
@@ -115,6 +115,6 @@ module _ (values : Given) where
       ∙ ap (λ s. after_bytes s (filled before values)) (value_as_name state other all.0)
       ∙ value_bare (after_bytes state (field_spelling other)) before after named all.1
 
-pub values_bare : (whole : List ℕ) (parts : List Part) → Reads whole parts → ValuesStandBare parts
+pub values_bare : (whole : List ℕ) (parts : List Part) → IsReadingOf whole parts → ValuesStandBare parts
 values_bare whole parts reads values before after named split =
     value_bare values Bare before after named (subst (AreBareFrom Bare) split reads.bare)

@@ -7,7 +7,8 @@ use Rattle.std.specs.List.{list_any}
 use Rattle.std.proofs.lemmas.Bool.{false≢true}
 use Rattle.std.proofs.lemmas.List.Elements.{All-head, All-tail}
 use Rattle.enqueue_lines.specs.Quoting.{quoted}
-use Rattle.enqueue_lines.specs.Template.{Given, IsPlainPart, Part, Reads, field, field_spelling, field_value, filled}
+use Rattle.enqueue_lines.specs.Template.{Given, IsPlainPart, Part, IsReadingOf, field, field_spelling, field_value}
+use Rattle.enqueue_lines.specs.Template.{filled}
 use Rattle.enqueue_lines.specs.Template.{name_of, spells, text}
 use Rattle.enqueue_lines.specs.Texts.{LacksByte}
 use Rattle.enqueue_lines.specs.declared.template.Field.{Field}
@@ -101,7 +102,8 @@ module _ (values : Given) where
       → filled parts values ≡ spells parts
   only_text [] before whole lacks is = refl
   only_text (text plain ∷ parts) before whole lacks is =
-      ap (λ t. plain ++ t) (only_text parts (before ++ plain) whole lacks (append_assoc before plain (spells parts) ∙ is))
+      ap (λ t. plain ++ t)
+      (only_text parts (before ++ plain) whole lacks (append_assoc before plain (spells parts) ∙ is))
   only_text (field named ∷ parts) before whole lacks is =
       absurd (has_no_such 123 before ((name_of named ++ codes "}") ++ spells parts) whole lacks is)
 
@@ -121,8 +123,10 @@ module _ (values : Given) where
       ∙ append_assoc two plain (filled others values)
   field_first named parts then (field other ∷ others) one two all lacks others_lack e =
       let cut = first_same 123 one two ((name_of named ++ codes "}") ++ spells parts) ((name_of other ++ codes "}") ++ spells others) lacks others_lack e in
-      let closed = first_same 125 (name_of named) (name_of other) (spells parts) (spells others) (name_closes named) (name_closes other)
-      (sym (append_assoc (name_of named) (codes "}") (spells parts)) ∙ cut.1 ∙ append_assoc (name_of other) (codes "}") (spells others)) in
+      let closed = first_same 125 (name_of named) (name_of other) (spells parts) (spells others) (name_closes named)
+      (name_closes other)
+      (sym (append_assoc (name_of named) (codes "}") (spells parts)) ∙ cut.1
+      ∙ append_assoc (name_of other) (codes "}") (spells others)) in
       let before : one ≡ two = cut.0 in
       let same : named ≡ other = one_name named other closed.0 in
       let rest : filled parts values ≡ filled others values =
@@ -144,7 +148,8 @@ module _ (values : Given) where
       (λ others one two. same_filled parts others one two (All-tail IsPlainPart (field named) parts all))
       others one two rest lacks others_lack e
 
-  pub one_reading : (whole : List ℕ) (parts others : List Part) → Reads whole parts → Reads whole others
+  pub one_reading : (whole : List ℕ) (parts others : List Part) → IsReadingOf whole parts → IsReadingOf whole others
       → filled parts values ≡ filled others values
   one_reading whole parts others reads other =
-      same_filled parts others [] [] reads.plain other.plain (no_byte 123) (no_byte 123) (sym reads.spelled ∙ other.spelled)
+      same_filled parts others [] [] reads.plain other.plain (no_byte 123) (no_byte 123)
+      (sym reads.spelled ∙ other.spelled)

@@ -9,8 +9,8 @@ use Rattle.std.proofs.lemmas.List.Concat.{flat_map-append}
 use Rattle.std.proofs.lemmas.List.Elements.{All-push}
 use Rattle.byte_ends.specs.Lines.{as_line, without_cr}
 use Rattle.line_reader.specs.Lines.{BeginsWithLine, Hands, Reading}
-use Rattle.enqueue_lines.specs.Ending.{BeginsBadly, BreaksGroup, CountsStep, LacksLine, SaysNext, TakesLine}
-use Rattle.enqueue_lines.specs.Ending.{next_number}
+use Rattle.enqueue_lines.specs.Ending.{BeginsBadly, BreaksGroup, CountsStep, LacksLine, SaysNext, TakesNextLine}
+use Rattle.enqueue_lines.specs.Ending.{number_after}
 use Rattle.enqueue_lines.specs.Groups.{GroupItems, added_by, listed_by, removed_by, items_of_lines}
 use Rattle.enqueue_lines.specs.Lines.{LineSays, NumbersFit}
 use Rattle.enqueue_lines.specs.Running.{GroupComes, IsNoEnd, IsSiteLine, KeepsSiteLine, SaysLines, SaysPiece, StepsOn}
@@ -124,7 +124,7 @@ group_begins held kept count none nought = (
 
 module _ (first came more held rest : List ℕ) (old new : List SiteLine) (count now : ℕ)
     (comes : GroupComes (first ++ came) held old count None) where
-  going : StepsOn (held ++ more) rest old new GoesOn → now ≡ next_number count
+  going : StepsOn (held ++ more) rest old new GoesOn → now ≡ number_after count
       → (group : GroupComes (first ++ (came ++ more)) rest new now None) × (length group.lines ≡ length comes.lines + 1)
   going steps counts =
       let length_is = length-append comes.lines (steps.0 ∷ []) in (
@@ -139,7 +139,7 @@ module _ (first came more held rest : List ℕ) (old new : List SiteLine) (count
         omega (arith, length_is),
       )
 
-  ending : (ready : ℕ) → StepsOn (held ++ more) rest old new (EndsWith ready) → now ≡ next_number count
+  ending : (ready : ℕ) → StepsOn (held ++ more) rest old new (EndsWith ready) → now ≡ number_after count
       → GroupComes (first ++ (came ++ more)) rest new now (Some ready)
   ending ready steps counts =
       let length_is = length-append comes.lines (End ready steps.0 ∷ []) in
@@ -181,10 +181,10 @@ module _ (first came more held rest : List ℕ) (old new : List SiteLine) (count
 
   -- the next line can't be read
   pub group_breaks : (limit before number unread reads : ℕ) (fault : EnqueueFault)
-      → number ≡ next_number (counted_on before count) → LacksLine limit (held ++ more) number unread reads fault
+      → number ≡ number_after (counted_on before count) → LacksLine limit (held ++ more) number unread reads fault
       → BreaksGroup limit (first ++ (came ++ more)) before unread reads fault
   group_breaks limit before number unread reads fault numbered lacks =
-      let same : number ≡ next_number (before + length comes.lines) = omega (arith, numbered, comes.counted) in
+      let same : number ≡ number_after (before + length comes.lines) = omega (arith, numbered, comes.counted) in
       record {
         lines = comes.lines;
         after = held ++ more;
@@ -238,7 +238,7 @@ pub line_taken : (limit : ℕ) (bytes rest : List ℕ) (old new : List SiteLine)
     (parsed : SiteLine)
     (result : Result Step EnqueueFault) → SaysLines bytes rest (parsed ∷ []) → reads ≡ unread
     → IfOk result (KeepsSiteLine parsed old new) → IfErr result (λ fault. fault ≡ NoMemory)
-    → TakesLine limit bytes rest old new number unread reads result
+    → TakesNextLine limit bytes rest old new number unread reads result
 line_taken limit bytes rest old new number unread reads (End ready out) (Ok step) says same keeps refused =
     (subst (StepsOn bytes rest old new) (sym keeps.0) (out, says, keeps.1), same)
 line_taken limit bytes rest old new number unread reads (Ready item) (Ok step) says same keeps refused =
@@ -254,7 +254,7 @@ line_taken limit bytes rest old new number unread reads parsed (Err fault) says 
 
 -- and to how many came
 pub step_counted : (old new : ℕ) (parsed : SiteLine) (kept now : List SiteLine) (result : Result Step EnqueueFault)
-    → new ≡ next_number old → IfOk result (KeepsSiteLine parsed kept now) → IfOk result (CountsStep old new)
+    → new ≡ number_after old → IfOk result (KeepsSiteLine parsed kept now) → IfOk result (CountsStep old new)
 step_counted old new (End ready out) kept now (Ok step) counts keeps = subst (CountsStep old new) (sym keeps.0) counts
 step_counted old new (Ready item) kept now (Ok step) counts keeps = subst (CountsStep old new) (sym keeps.0) counts
 step_counted old new (NowReady item) kept now (Ok step) counts keeps = subst (CountsStep old new) (sym keeps.0) counts

@@ -26,8 +26,8 @@ abbrev pub site_line_limit : ℕ
 site_line_limit = 4096
 
 -- the number of the line after so many, counted from 1
-abbrev pub next_number : ℕ → ℕ
-next_number before = counted_on before 1
+abbrev pub number_after : ℕ → ℕ
+number_after before = counted_on before 1
 
 -- ---- a line that can't be read
 
@@ -59,7 +59,7 @@ pub record BreaksGroup (limit : ℕ) (bytes : List ℕ) (before unread reads : �
   pub after : List ℕ
   pub whole : All IsNoEnd lines
   pub says : SaysLines bytes after lines
-  pub cause : LacksLine limit after (next_number (before + length lines)) unread reads fault
+  pub cause : LacksLine limit after (number_after (before + length lines)) unread reads fault
       ⊎ ((fault ≡ ReadFault) × (most_lines ≤ before + length lines) × (reads ≡ unread))
 
 -- the end line of a group, which has this number, doesn't fit the lines before it
@@ -69,10 +69,10 @@ pub record IsMisfit (bytes : List ℕ) (ready : List Item) (before number : ℕ)
   pub whole : All IsNoEnd group.lines
   pub says : SaysLines bytes after (group_says group)
   pub misfit : ¬ Fits ready (items_of_lines group.lines) group.ready
-  pub numbered : number ≡ next_number (before + length group.lines)
+  pub numbered : number ≡ number_after (before + length group.lines)
 
 -- the input ended after some lines of a group, none of which ends it, or within a line
-pub record IsTorn (bytes : List ℕ) (left : Option (List ℕ)) : Type 0 where
+pub record IsTornGroup (bytes : List ℕ) (left : Option (List ℕ)) : Type 0 where
   pub lines : List SiteLine
   pub after : List ℕ
   pub whole : All IsNoEnd lines
@@ -116,7 +116,7 @@ StopsAt pipe limit bytes held before old new (BadLine number) =
 StopsAt pipe limit bytes held before old new (BadEnd number) =
     (new.outputs ≡ old.outputs) × (new.unread ≡ old.unread) × IsMisfit bytes held.ready before number
 StopsAt pipe limit bytes held before old new NoEnd =
-    (new.outputs ≡ old.outputs) × (new.unread ≡ old.unread) × IsTorn bytes new.left
+    (new.outputs ≡ old.outputs) × (new.unread ≡ old.unread) × IsTornGroup bytes new.left
 StopsAt pipe limit bytes held before old new ReadFault =
     (new.outputs ≡ old.outputs) × BreaksGroup limit bytes before old.unread new.unread ReadFault
 StopsAt pipe limit bytes held before old new NoMemory = (new.outputs ≡ old.outputs) × (new.unread ≡ old.unread)
@@ -150,16 +150,16 @@ SaysNext limit bytes rest number unread reads (Ok read) = SaysLines bytes rest (
 SaysNext limit bytes rest number unread reads (Err fault) = LacksLine limit bytes number unread reads fault
 
 -- how a group goes on after the next line
-abbrev pub TakesLine : ℕ → List ℕ → List ℕ → List SiteLine → List SiteLine → ℕ → ℕ → ℕ → Result Step EnqueueFault
+abbrev pub TakesNextLine : ℕ → List ℕ → List ℕ → List SiteLine → List SiteLine → ℕ → ℕ → ℕ → Result Step EnqueueFault
     → Type 0
-TakesLine limit bytes rest old new number unread reads (Ok step) =
+TakesNextLine limit bytes rest old new number unread reads (Ok step) =
     StepsOn bytes rest old new step × (reads ≡ unread)
-TakesLine limit bytes rest old new number unread reads (Err fault) = LacksLine limit bytes number unread reads fault
+TakesNextLine limit bytes rest old new number unread reads (Err fault) = LacksLine limit bytes number unread reads fault
 
 -- the lines that came are counted after a step
 abbrev pub CountsStep : ℕ → ℕ → Step → Type 0
-CountsStep old new GoesOn = new ≡ next_number old
-CountsStep old new (EndsWith ready) = new ≡ next_number old
+CountsStep old new GoesOn = new ≡ number_after old
+CountsStep old new (EndsWith ready) = new ≡ number_after old
 CountsStep old new Stops = new ≡ old
 
 -- the lines of a group have come, after so many others
@@ -188,7 +188,7 @@ SendsItems pipe items old new (Err fault) =
 
 -- a group that came, whose end line has this number, is handed over; or its end doesn't fit, writing broke off, or
 -- memory was refused
-pub record IsGiven (pipe : Pipe) (group : GroupItems) (ready : ℕ) (held next : ReadySoFar) (old new : KnownOutputs)
+pub record IsHandedOver (pipe : Pipe) (group : GroupItems) (ready : ℕ) (held next : ReadySoFar) (old new : KnownOutputs)
     (more : Bool) : Type 0 where
   pub more_is : more ≡ true
   pub fits : Fits held.ready group ready
@@ -204,7 +204,7 @@ IsNotGiven pipe group ready number held old new fault =
 
 abbrev pub Gives : Pipe → GroupItems → ℕ → ℕ → ReadySoFar → ReadySoFar → KnownOutputs → KnownOutputs
     → Result Bool EnqueueFault → Type 0
-Gives pipe group ready number held next old new (Ok more) = IsGiven pipe group ready held next old new more
+Gives pipe group ready number held next old new (Ok more) = IsHandedOver pipe group ready held next old new more
 Gives pipe group ready number held next old new (Err fault) = IsNotGiven pipe group ready number held old new fault
 
 -- the next group was handed over; or there is none; or this is why it can't be handed over

@@ -8,11 +8,11 @@ use Rattle.state_core.specs.declared.item.Item.{Item}
 use Rattle.state_core.specs.Items.{item_cmp}
 use Rattle.enqueue_lines.specs.declared.site_line.SiteLine.{SiteLine}
 use Rattle.enqueue_lines.specs.declared.site_line.SiteLine.TheVariants.{Ready, NowReady, NotReady, End, Nothing}
-use Rattle.report_changes.specs.Listing.{same_item}
+use Rattle.report_changes.specs.Listing.{is_same_item}
 
 -- whether an item is among these
 abbrev pub is_among : List Item → Item → Bool
-is_among items item = list_any (same_item item) items
+is_among items item = list_any (is_same_item item) items
 
 -- no two of these are one
 abbrev pub AreNamedOnce : List Item → Type 0

@@ -61,7 +61,7 @@ AreBareFrom state (part ∷ parts) = IsBarePart state part × AreBareFrom (after
 
 -- the pieces are a reading of the text: they spell it, none of their texts has an open brace, and none of their fields
 -- stands in quotes or behind a dollar
-pub record Reads (whole : List ℕ) (parts : List Part) : Type 0 where
+pub record IsReadingOf (whole : List ℕ) (parts : List Part) : Type 0 where
   pub spelled : whole ≡ spells parts
   pub plain : All IsPlainPart parts
   pub bare : AreBareFrom Bare parts
@@ -128,8 +128,8 @@ IsWrongBrace state after (QuotedField named) =
     (next : List ℕ) × (after ≡ name_of named ++ codes "}" ++ next) × (state ≢ Bare)
 IsWrongBrace state after NoMemory = ⊥
 
--- the text begins with pieces, none of whose texts has an open brace and none of whose fields stands in quotes or behind
--- a dollar, and then has the first brace that is wrong; or memory was refused
+-- the text begins with pieces, none of whose texts has an open brace and none of whose fields stands in quotes or
+-- behind a dollar, and then has the first brace that is wrong; or memory was refused
 abbrev pub IsRefusedTemplate : List ℕ → TemplateFault → Type 0
 IsRefusedTemplate whole fault =
     ((parts : List Part) × (after : List ℕ) × (whole ≡ spells parts ++ codes "{" ++ after)

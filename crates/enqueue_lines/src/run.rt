@@ -4,7 +4,7 @@ ghost use Rattle.std.specs.Prelude.{◌≡◌, ◌⊎◌, ◌++◌, ◌∷◌, �
 ghost use Rattle.std.specs.Io.KnownBytes.{Consumes, IsAtEnd};
 ghost use Rattle.line_reader.specs.Lines.{HasNoLf};
 ghost use Rattle.enqueue_lines.specs.Ending.{CountsStep, Gives, HandsAll, HandsGroup, ReadsGroup, SaysNext, SendsItems};
-ghost use Rattle.enqueue_lines.specs.Ending.{SendsLines, SendsTexts, TakesLine, next_number};
+ghost use Rattle.enqueue_lines.specs.Ending.{SendsLines, SendsTexts, TakesNextLine, number_after};
 ghost use Rattle.enqueue_lines.specs.Groups.{Fits, ReadySoFar, fresh, ready_first, ready_after, items_of_lines};
 ghost use Rattle.enqueue_lines.specs.Lines.{NumbersFit, LineSays};
 ghost use Rattle.enqueue_lines.specs.Printing.{pipe_shown};
@@ -149,7 +149,8 @@ fn give<O: Drain, E: Drain>(
     output: &mut O,
     errors: &mut E,
 ) -> Result<bool, EnqueueFault>
-    ensures { Gives (pipe_shown pipeline.now) (items_of_lines coming.now.lines.items) ready number handing.old handing.new
+    ensures { Gives (pipe_shown pipeline.now)
+        (items_of_lines coming.now.lines.items) ready number handing.old handing.new
         (outputs_at (O.taken output.old) (O.failed output.old) (E.taken errors.old) (E.failed errors.old))
         (outputs_at (O.taken output.new) (O.failed output.new) (E.taken errors.new) (E.failed errors.new)) result }
 {
@@ -199,7 +200,7 @@ fn read_on<S: Source>(
     source: &mut S,
 ) -> Result<Step, EnqueueFault>
     ensures moves { (came : List ℕ) × Consumes (S.left source.old) (S.left source.new) came
-        × TakesLine reader.old.limit (reader.old.held ++ came) reader.new.held coming.old.lines.items
+        × TakesNextLine reader.old.limit (reader.old.held ++ came) reader.new.held coming.old.lines.items
         coming.new.lines.items number (S.failed source.old) (S.failed source.new) result }
     ensures counts { IfOk result (CountsStep coming.old.count coming.new.count) }
     ensures end { result ≡ Ok Step.Stops → IsAtEnd (S.left source.new) × HasNoLf reader.new.held }
@@ -215,7 +216,7 @@ fn read_on<S: Source>(
 /// Keeps what a line says, and says how the group goes on.
 fn keep(coming: &mut Coming, parsed: SiteLine) -> Result<Step, EnqueueFault>
     ensures kept { IfOk result (KeepsSiteLine parsed coming.old.lines.items coming.new.lines.items) }
-    ensures counted { coming.new.count ≡ next_number coming.old.count }
+    ensures counted { coming.new.count ≡ number_after coming.old.count }
     ensures fault { IfErr result (λ fault. fault ≡ EnqueueFault.NoMemory) }
 {
     coming.count = coming.count.saturating_add(1);

@@ -4,7 +4,8 @@ ghost use Rattle.std.specs.Prelude.{◌≡◌, ◌++◌, ℕ, List, IfErr, IfOk,
 ghost use Rattle.std.specs.Prelude.{decimal, map};
 ghost use Rattle.enqueue_lines.specs.Quoting.{quoted};
 ghost use Rattle.enqueue_lines.specs.Shell.{after_bytes};
-ghost use Rattle.enqueue_lines.specs.Template.{Given, IsRefusedTemplate, IsWrongBrace, Part, Reads, ValuesStandBare};
+ghost use Rattle.enqueue_lines.specs.Template.{Given, IsRefusedTemplate, IsWrongBrace, Part, IsReadingOf};
+ghost use Rattle.enqueue_lines.specs.Template.{ValuesStandBare};
 ghost use Rattle.enqueue_lines.specs.Template.{field_value, filled, filled_part, name_of, template_part, values_given};
 ghost use Rattle.enqueue_lines.specs.Template.{with_field, with_text};
 ghost use Rattle.enqueue_lines.specs.Texts.{LacksByte};
@@ -108,7 +109,7 @@ impl Template {
     /// that a value's own quotes would quote nothing, or behind a dollar, so that it reads a parameter's name; 5
     /// `NoMemory`. It costs O(n) for n bytes.
     pub fn read(alloc: Global, text: &str) -> Result<Template, TemplateFault<'_>>
-        ensures read { IfOk result (Reads text.entry.now) }
+        ensures read { IfOk result (IsReadingOf text.entry.now) }
         ensures refused { IfErr result (IsRefusedTemplate text.entry.now) }
     {
         let mut pieces = Vec::new(alloc);
@@ -267,12 +268,12 @@ fn add_number(alloc: Global, text: &mut Vec<u8>, number: u32) -> Result<(), Allo
 /// A law: a text has one reading, except for how its plain texts are cut. Any pieces that spell it, none of whose texts
 /// has an open brace, write the same for the same values.
 pub fn templates_have_one_reading()
-    ensures { (whole : List ℕ) → (parts others : List Part) → Reads whole parts → Reads whole others
+    ensures { (whole : List ℕ) → (parts others : List Part) → IsReadingOf whole parts → IsReadingOf whole others
         → (values : Given) → filled parts values ≡ filled others values }
 {}
 
 /// A law: whatever values are put into a template, none opens or closes quotes: a shell reads each of them from outside
 /// quotes on, and none behind a dollar.
 pub fn values_are_read_outside_quotes()
-    ensures { (whole : List ℕ) (parts : List Part) → Reads whole parts → ValuesStandBare parts }
+    ensures { (whole : List ℕ) (parts : List Part) → IsReadingOf whole parts → ValuesStandBare parts }
 {}

@@ -1,6 +1,7 @@
 -- A pattern of which every vote is rejected is found to be so: one that isn't takes a vote that no other one takes, by
 -- a voter or of a label that none of them names.
-use Rattle.std.proofs.Common.{◌≡◌, ◌<◌, ℕ, zero, suc, ℤ, pos, List, [], ◌∷◌, ◌++◌, Bool, true, false, not, ◌&&◌, ◌||◌, length, map}
+use Rattle.std.proofs.Common.{◌≡◌, ◌<◌, ℕ, zero, suc, ℤ, pos, List, [], ◌∷◌, ◌++◌, Bool, true, false, not, ◌&&◌, ◌||◌}
+use Rattle.std.proofs.Common.{length, map}
 use Rattle.std.proofs.Common.{Option, None, Some, is_some, ap, refl, ◌∙◌, sym, subst, arith}
 use Rattle.std.specs.Prelude.{if◌then◌else◌, slice_get, unwrap_or, option_map}
 use Rattle.std.specs.Ordering.{int_eq}
@@ -14,7 +15,8 @@ use Rattle.change_core.specs.Votes.{GivenApproval}
 use Rattle.gate_rules.specs.Own.{labels_take, matches, names, some, takes}
 use Rattle.gate_rules.specs.Reading.{each}
 use Rattle.gate_rules.specs.Rules.{LabelRule, PatternRule}
-use Rattle.gate_check.specs.Meeting.{IsRejected, has_none, is_as_wide, is_no_vote, rejects_each, rejects_votes, wanted_vote}
+use Rattle.gate_check.specs.Meeting.{IsRejectedPattern, has_none, is_as_wide, is_no_vote, rejects_each, rejects_votes}
+use Rattle.gate_check.specs.Meeting.{wanted_vote}
 use Rattle.gate_check.proofs.Shut.{all_hold, both, some_at, some_in}
 
 -- ---- a text that differs from each of these: it is longer
@@ -107,13 +109,14 @@ or_else : (a b : Bool) → (a ≡ false → b ≡ true) → (a || b) ≡ true
 or_else true b other = refl
 or_else false b other = other refl
 
-module _ (rejected : List PatternRule) (pattern : PatternRule) (all : IsRejected rejected pattern) where
+module _ (rejected : List PatternRule) (pattern : PatternRule) (all : IsRejectedPattern rejected pattern) where
   abbrev vote_on : List ℕ → ℤ → GivenApproval
   vote_on label value = record { label = label; voter = voter_for pattern.username rejected; value = value }
 
   -- one that takes a vote of the label and the value
   one_takes : (label : List ℕ) (value : ℤ) → is_no_vote value ≡ false
-      → labels_take pattern.labels (vote_on label value) ≡ true → (other : PatternRule) × (k : ℕ) × (slice_get rejected k ≡ Some other)
+      → labels_take pattern.labels (vote_on label value) ≡ true
+      → (other : PatternRule) × (k : ℕ) × (slice_get rejected k ≡ Some other)
       × (is_as_wide other pattern ≡ true) × (names other.username (unwrap_or pattern.username []) ≡ true)
       × (labels_take other.labels (vote_on label value) ≡ true)
   one_takes label value real takes =
@@ -137,7 +140,8 @@ module _ (rejected : List PatternRule) (pattern : PatternRule) (all : IsRejected
       (all_hold (is_as_wide found.0 pattern) (names found.0.username (unwrap_or pattern.username [])) found.3 found.4) none)
   by_labels (rule ∷ []) same = each_all (rejects_votes rejected pattern rule.label) rule.values (λ k value at.
       let vote = vote_on rule.label value in
-      let of_rule : takes rule vote ≡ true = all_hold (bytes_eq rule.label rule.label) (some (λ v. int_eq v value) rule.values)
+      let of_rule : takes rule vote ≡ true = all_hold (bytes_eq rule.label rule.label)
+      (some (λ v. int_eq v value) rule.values)
       ((bytes_eq-Decides rule.label rule.label).1 refl)
       (some_at (λ v. int_eq v value) rule.values k value at ((Decides-int_eq value value).1 refl)) in
       or_else (is_no_vote value) _ (λ real.
@@ -150,6 +154,6 @@ module _ (rejected : List PatternRule) (pattern : PatternRule) (all : IsRejected
       (of_any_voter found.0.labels rule.label (voter_for pattern.username rejected) (unwrap_or pattern.username []) value found.5)))))
   by_labels (rule ∷ other ∷ rules) same = refl
 
-pub is_found : (rejected : List PatternRule) (pattern : PatternRule) → IsRejected rejected pattern
+pub is_found : (rejected : List PatternRule) (pattern : PatternRule) → IsRejectedPattern rejected pattern
     → rejects_each rejected pattern pattern.labels ≡ true
 is_found rejected pattern all = by_labels rejected pattern all pattern.labels refl

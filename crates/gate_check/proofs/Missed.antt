@@ -16,7 +16,7 @@ use Rattle.std.proofs.lemmas.List.{take_all, take_more}
 use Rattle.std.proofs.lemmas.Option.{slice_get_within, unwrap_or-slice_get}
 use Rattle.lattice_core.specs.MemberLaws.{Contains-cons_cases, Contains-first, Contains-later, Contains-none}
 use Rattle.footer_text.specs.Lines.{IsFooter}
-use Rattle.gate_check.specs.Gained.{Gains}
+use Rattle.gate_check.specs.Gained.{GainsTexts}
 use Rattle.gate_check.specs.Ignored.{BeginsLike, IsNearMiss, LineMisses}
 use Rattle.gate_check.specs.Unused.{SomeIs}
 use Rattle.gate_check.proofs.Sought.{at_place, in_either, in_first, in_second, none_yet}
@@ -93,7 +93,8 @@ put_in (x ∷ xs) text name c =
       | Equal ↦ λ c. inl c
       | Greater ↦ λ c. elim (Contains-cons_cases x (insert_key (slice_cmp nat_cmp) xs text) name c) [
         | inl same ↦ inl (subst (Contains (x ∷ xs)) same (Contains-first x xs))
-        | inr later ↦ elim (put_in xs text name later) [ inl known ↦ inl (Contains-later x xs name known) | inr same ↦ inr same ]
+        | inr later ↦ elim
+            (put_in xs text name later) [ inl known ↦ inl (Contains-later x xs name known) | inr same ↦ inr same ]
       ]
     ] c
 
@@ -103,7 +104,8 @@ has_put [] text = Contains-first text []
 has_put (x ∷ xs) text =
     elim (slice_cmp nat_cmp text x) as (λ o. slice_cmp nat_cmp text x ≡ o → Contains (match_ordering o (text ∷ x ∷ xs) (x ∷ xs) (x ∷ insert_key (slice_cmp nat_cmp) xs text)) text) [
       | Less ↦ λ e. Contains-first text (x ∷ xs)
-      | Equal ↦ λ e. subst (Contains (x ∷ xs)) (sym (slice_cmp-IsAntisymmetric nat_cmp-IsAntisymmetric text x e)) (Contains-first x xs)
+      | Equal ↦ λ e. subst (Contains (x ∷ xs)) (sym (slice_cmp-IsAntisymmetric nat_cmp-IsAntisymmetric text x e))
+          (Contains-first x xs)
       | Greater ↦ λ e. Contains-later x (insert_key (slice_cmp nat_cmp) xs text) text (has_put xs text)
     ] refl
 
@@ -115,13 +117,15 @@ has_still (x ∷ xs) text name c =
       | Less ↦ Contains-later text (x ∷ xs) name c
       | Equal ↦ c
       | Greater ↦ elim (Contains-cons_cases x xs name c) [
-        | inl same ↦ subst (Contains (x ∷ insert_key (slice_cmp nat_cmp) xs text)) same (Contains-first x (insert_key (slice_cmp nat_cmp) xs text))
+        | inl same ↦ subst (Contains (x ∷ insert_key (slice_cmp nat_cmp) xs text)) same
+            (Contains-first x (insert_key (slice_cmp nat_cmp) xs text))
         | inr later ↦ Contains-later x (insert_key (slice_cmp nat_cmp) xs text) name (has_still xs text name later)
       ]
     ]
 
 -- the texts of a set are in order as its keys are
-all_above : {Y : Type 0} (key : String Y) (keys : List (String Y)) → AllByRecursion (λ other. string_cmp key other ≡ Less) keys
+all_above : {Y : Type 0} (key : String Y) (keys : List (String Y))
+    → AllByRecursion (λ other. string_cmp key other ≡ Less) keys
     → AllByRecursion (λ other. slice_cmp nat_cmp (string_bytes key) other ≡ Less) (map string_bytes keys)
 all_above key [] all = tt
 all_above key (x ∷ xs) all = (all.0, all_above key xs all.1)
@@ -135,13 +139,15 @@ texts_in_order (x ∷ xs) sorted = (all_above x xs sorted.0, texts_in_order xs s
 -- ---- what a line adds
 
 module _ {Y : Type 0} (old : BTreeSet (String Y)) (bases : List (List ℕ)) (line : List ℕ) where
-  pub gains_nothing : ((value : List ℕ) → ¬ LineMisses bases value line) → Gains old (λ value. LineMisses bases value line) old
+  pub gains_nothing : ((value : List ℕ) → ¬ LineMisses bases value line)
+      → GainsTexts old (λ value. LineMisses bases value line) old
   gains_nothing none text = (λ c. inl c, λ either. elim either [ inl c ↦ c | inr misses ↦ absurd (none text misses) ])
 
-  pub gains_one : (new : BTreeSet (String Y)) (value : List ℕ) → ((other : List ℕ) → IsFooter line other → other ≡ value)
+  pub gains_one : (new : BTreeSet (String Y)) (value : List ℕ)
+      → ((other : List ℕ) → IsFooter line other → other ≡ value)
       → IsFooter line value → IsNearMiss bases value
       → map string_bytes new.keys ≡ insert_key (slice_cmp nat_cmp) (map string_bytes old.keys) value
-      → Gains old (λ value. LineMisses bases value line) new
+      → GainsTexts old (λ value. LineMisses bases value line) new
   gains_one new value only footer near is text = (
     λ c. elim (put_in (map string_bytes old.keys) value text (subst (λ l. Contains l text) is c)) [
       | inl known ↦ inl known
@@ -149,22 +155,25 @@ module _ {Y : Type 0} (old : BTreeSet (String Y)) (bases : List (List ℕ)) (lin
     ],
     λ either. subst (λ l. Contains l text) (sym is) (elim either [
       | inl known ↦ has_still (map string_bytes old.keys) value text known
-      | inr misses ↦ subst (Contains (insert_key (slice_cmp nat_cmp) (map string_bytes old.keys) value)) (sym (only text misses.0)) (has_put (map string_bytes old.keys) value)
+      | inr misses ↦ subst (Contains (insert_key (slice_cmp nat_cmp) (map string_bytes old.keys) value))
+          (sym (only text misses.0)) (has_put (map string_bytes old.keys) value)
     ]),
   )
 
 -- ---- what several add, one after another
 
 module _ {Y X : Type 0} (P : List ℕ → X → Type 0) (start : BTreeSet (String Y)) where
-  pub gains_none : Gains start (λ text. SomeIs (P text) []) start
+  pub gains_none : GainsTexts start (λ text. SomeIs (P text) []) start
   gains_none text = (λ c. inl c, λ either. elim either [ inl c ↦ c | inr some ↦ absurd some ])
 
   -- those so far, and one more
-  pub gains_more : (now new : BTreeSet (String Y)) (xs : List X) (x : X) → Gains start (λ text. SomeIs (P text) xs) now
-      → Gains now (λ text. P text x) new → Gains start (λ text. SomeIs (P text) (xs ++ x ∷ [])) new
+  pub gains_more : (now new : BTreeSet (String Y)) (xs : List X) (x : X)
+      → GainsTexts start (λ text. SomeIs (P text) xs) now
+      → GainsTexts now (λ text. P text x) new → GainsTexts start (λ text. SomeIs (P text) (xs ++ x ∷ [])) new
   gains_more now new xs x so_far step text = (
     λ c. elim ((step text).0 c) [
-      | inl known ↦ elim ((so_far text).0 known) [ inl first ↦ inl first | inr some ↦ inr (in_first (P text) xs (x ∷ []) some) ]
+      | inl known ↦ elim
+          ((so_far text).0 known) [ inl first ↦ inl first | inr some ↦ inr (in_first (P text) xs (x ∷ []) some) ]
       | inr here ↦ inr (in_second (P text) xs (x ∷ []) (inl here))
     ],
     λ either. (step text).1 (elim either [
@@ -176,8 +185,8 @@ module _ {Y X : Type 0} (P : List ℕ → X → Type 0) (start : BTreeSet (Strin
     ]),
   )
 
-  pub gains_alone : (new : BTreeSet (String Y)) (x : X) → Gains start (λ text. P text x) new
-      → Gains start (λ text. SomeIs (P text) (x ∷ [])) new
+  pub gains_alone : (new : BTreeSet (String Y)) (x : X) → GainsTexts start (λ text. P text x) new
+      → GainsTexts start (λ text. SomeIs (P text) (x ∷ [])) new
   gains_alone new x step text = (
     λ c. elim ((step text).0 c) [ inl known ↦ inl known | inr here ↦ inr (inl here) ],
     λ either. (step text).1 (elim either [ inl known ↦ inl known | inr some ↦ inr (alone (P text) x some) ]),
@@ -186,7 +195,8 @@ module _ {Y X : Type 0} (P : List ℕ → X → Type 0) (start : BTreeSet (Strin
 -- ---- what is left
 
 -- what is there, and what those that are left add, is what was there, and what all add
-abbrev pub Leaves : {Y X : Type 0} → (List ℕ → X → Type 0) → BTreeSet (String Y) → List X → BTreeSet (String Y) → List X → Type 0
+abbrev pub Leaves : {Y X : Type 0} → (List ℕ → X → Type 0) → BTreeSet (String Y) → List X → BTreeSet (String Y) → List X
+    → Type 0
 Leaves P start whole now rest = (text : List ℕ)
     → (Contains (map string_bytes now.keys) text ⊎ SomeIs (P text) rest)
     ↔ (Contains (map string_bytes start.keys) text ⊎ SomeIs (P text) whole)
@@ -200,7 +210,8 @@ module _ {Y X : Type 0} (P : List ℕ → X → Type 0) (start : BTreeSet (Strin
 
   -- some are added, and the later ones are left
   pub leaves_later : (now new : BTreeSet (String Y)) (part later : List X) → rest ≡ part ++ later
-      → Gains now (λ text. SomeIs (P text) part) new → Leaves P start whole now rest → Leaves P start whole new later
+      → GainsTexts now (λ text. SomeIs (P text) part) new → Leaves P start whole now rest
+      → Leaves P start whole new later
   leaves_later now new part later is step left text = (
     λ either. (left text).0 (elim either [
       | inl c ↦ elim ((step text).0 c) [
@@ -219,14 +230,15 @@ module _ {Y X : Type 0} (P : List ℕ → X → Type 0) (start : BTreeSet (Strin
   )
 
   pub leaves_none : (now : BTreeSet (String Y)) → rest ≡ [] → Leaves P start whole now rest
-      → Gains start (λ text. SomeIs (P text) whole) now
+      → GainsTexts start (λ text. SomeIs (P text) whole) now
   leaves_none now none left text = (
     λ c. (left text).0 (inl c),
     λ either. elim ((left text).1 either) [ inl c ↦ c | inr some ↦ absurd (subst (SomeIs (P text)) none some) ],
   )
 
 -- what is added to none
-pub gains_from_empty : {Y : Type 0} (P : List ℕ → Type 0) (start now : BTreeSet (String Y)) → start.keys ≡ [] → Gains start P now
+pub gains_from_empty : {Y : Type 0} (P : List ℕ → Type 0) (start now : BTreeSet (String Y)) → start.keys ≡ []
+    → GainsTexts start P now
     → (text : List ℕ) → Contains (map string_bytes now.keys) text ↔ P text
 gains_from_empty P start now none gains text = (
   λ c. elim ((gains text).0 c) [

@@ -18,7 +18,8 @@ use Rattle.gate_rules.specs.declared.condition.Clause.TheVariants.{Approval, Cur
 use Rattle.gate_rules.specs.declared.condition.Condition.{Condition}
 use Rattle.gate_rules.specs.declared.condition.Side.{Side}
 use Rattle.gate_rules.specs.declared.condition.Side.TheVariants.{Reject, Require}
-use Rattle.gate_check.specs.Meeting.{IsRejected, LetsNothingIn, asks_status, comes_out, has_none, is_as_wide, lets_in}
+use Rattle.gate_check.specs.Meeting.{IsRejectedPattern, LetsNothingIn, asks_status, comes_out, has_none, is_as_wide}
+use Rattle.gate_check.specs.Meeting.{lets_in}
 use Rattle.gate_check.specs.Meeting.{is_current_never_met, is_no_vote, lets_none_in, rejects_each, rejects_votes}
 use Rattle.gate_check.specs.Meeting.{same_answer, shuts_out, standing_with, wanted_vote}
 
@@ -85,37 +86,38 @@ none_let_in gate Abandoned none = (three_fail (lets_in gate New) (lets_in gate A
 none_let_in gate Merged none = (three_fail (lets_in gate New) (lets_in gate Abandoned) (lets_in gate Merged) none).2
 
 pub status_shut : (gate : GateRules) → lets_none_in gate ≡ true → LetsNothingIn gate
-status_shut gate none = λ change current set. by_last change current set (one_fails _ _ (none_let_in gate (status_of change) none)) where
-  Broken : Change → ℕ → ℕ → Type 0
-  Broken change current set = (condition : Condition) × IsBroken gate (standing_of change current set) condition
+status_shut gate none =
+    λ change current set. by_last change current set (one_fails _ _ (none_let_in gate (status_of change) none)) where
+      Broken : Change → ℕ → ℕ → Type 0
+      Broken change current set = (condition : Condition) × IsBroken gate (standing_of change current set) condition
 
-  by_first : (change : Change) (current set : ℕ)
-      → (comes_out true (compared gate.require (standing_with (status_of change)) OpenState) ≡ false)
-      ⊎ (comes_out true (compared gate.require (standing_with (status_of change)) StatusIn) ≡ false)
-      → Broken change current set
-  by_first change current set (inl out) =
-      (record { side = Require; clause = OpenState }, out_required (compared gate.require (standing_of change current set) OpenState) out)
-  by_first change current set (inr out) =
-      (record { side = Require; clause = StatusIn }, out_required (compared gate.require (standing_of change current set) StatusIn) out)
+      by_first : (change : Change) (current set : ℕ)
+          → (comes_out true (compared gate.require (standing_with (status_of change)) OpenState) ≡ false)
+          ⊎ (comes_out true (compared gate.require (standing_with (status_of change)) StatusIn) ≡ false)
+          → Broken change current set
+      by_first change current set (inl out) =
+          (record { side = Require; clause = OpenState }, out_required (compared gate.require (standing_of change current set) OpenState) out)
+      by_first change current set (inr out) =
+          (record { side = Require; clause = StatusIn }, out_required (compared gate.require (standing_of change current set) StatusIn) out)
 
-  by_next : (change : Change) (current set : ℕ)
-      → ((comes_out true (compared gate.require (standing_with (status_of change)) OpenState)
-      && comes_out true (compared gate.require (standing_with (status_of change)) StatusIn)) ≡ false)
-      ⊎ (comes_out false (compared gate.reject (standing_with (status_of change)) OpenState) ≡ false)
-      → Broken change current set
-  by_next change current set (inl out) = by_first change current set (one_fails _ _ out)
-  by_next change current set (inr out) =
-      (record { side = Reject; clause = OpenState }, out_rejected (compared gate.reject (standing_of change current set) OpenState) out)
+      by_next : (change : Change) (current set : ℕ)
+          → ((comes_out true (compared gate.require (standing_with (status_of change)) OpenState)
+          && comes_out true (compared gate.require (standing_with (status_of change)) StatusIn)) ≡ false)
+          ⊎ (comes_out false (compared gate.reject (standing_with (status_of change)) OpenState) ≡ false)
+          → Broken change current set
+      by_next change current set (inl out) = by_first change current set (one_fails _ _ out)
+      by_next change current set (inr out) =
+          (record { side = Reject; clause = OpenState }, out_rejected (compared gate.reject (standing_of change current set) OpenState) out)
 
-  by_last : (change : Change) (current set : ℕ)
-      → ((comes_out true (compared gate.require (standing_with (status_of change)) OpenState)
-      && comes_out true (compared gate.require (standing_with (status_of change)) StatusIn)
-      && comes_out false (compared gate.reject (standing_with (status_of change)) OpenState)) ≡ false)
-      ⊎ (comes_out false (compared gate.reject (standing_with (status_of change)) StatusIn) ≡ false)
-      → Broken change current set
-  by_last change current set (inl out) = by_next change current set (one_fails _ _ out)
-  by_last change current set (inr out) =
-      (record { side = Reject; clause = StatusIn }, out_rejected (compared gate.reject (standing_of change current set) StatusIn) out)
+      by_last : (change : Change) (current set : ℕ)
+          → ((comes_out true (compared gate.require (standing_with (status_of change)) OpenState)
+          && comes_out true (compared gate.require (standing_with (status_of change)) StatusIn)
+          && comes_out false (compared gate.reject (standing_with (status_of change)) OpenState)) ≡ false)
+          ⊎ (comes_out false (compared gate.reject (standing_with (status_of change)) StatusIn) ≡ false)
+          → Broken change current set
+      by_last change current set (inl out) = by_next change current set (one_fails _ _ out)
+      by_last change current set (inr out) =
+          (record { side = Reject; clause = StatusIn }, out_rejected (compared gate.reject (standing_of change current set) StatusIn) out)
 
 -- it is said of a side only where it is so
 pub none_in : (gate : GateRules) (side : Side) → shuts_out gate side ≡ true → lets_none_in gate ≡ true
@@ -137,13 +139,14 @@ asked_twice (Some false) (Some false) false same = inr refl
 
 pub current_shut : (gate : GateRules) (side : Side) → is_current_never_met gate side ≡ true → LetsNothingIn gate
 current_shut gate Reject never = cc
-current_shut gate Require same = λ change current set. by_side change current set (asked_twice gate.require.is_current gate.reject.is_current _ same) where
-  by_side : (change : Change) (current set : ℕ)
-      → (compared gate.require (standing_of change current set) CurrentSet ≡ Some false)
-      ⊎ (compared gate.reject (standing_of change current set) CurrentSet ≡ Some true)
-      → (condition : Condition) × IsBroken gate (standing_of change current set) condition
-  by_side change current set (inl broken) = (record { side = Require; clause = CurrentSet }, broken)
-  by_side change current set (inr broken) = (record { side = Reject; clause = CurrentSet }, broken)
+current_shut gate Require same = λ change current set. by_side change current set
+    (asked_twice gate.require.is_current gate.reject.is_current _ same) where
+      by_side : (change : Change) (current set : ℕ)
+          → (compared gate.require (standing_of change current set) CurrentSet ≡ Some false)
+          ⊎ (compared gate.reject (standing_of change current set) CurrentSet ≡ Some true)
+          → (condition : Condition) × IsBroken gate (standing_of change current set) condition
+      by_side change current set (inl broken) = (record { side = Require; clause = CurrentSet }, broken)
+      by_side change current set (inr broken) = (record { side = Reject; clause = CurrentSet }, broken)
 
 -- ---- approvals
 
@@ -206,7 +209,7 @@ module _ (rejected : List PatternRule) (pattern : PatternRule) (vote : GivenAppr
   by_labels (rule ∷ other ∷ rules) all takes = cc
 
 pub is_rejected : (rejected : List PatternRule) (pattern : PatternRule)
-    → rejects_each rejected pattern pattern.labels ≡ true → IsRejected rejected pattern
+    → rejects_each rejected pattern pattern.labels ≡ true → IsRejectedPattern rejected pattern
 is_rejected rejected pattern all vote real takes =
     let parts = both (names pattern.username vote.voter) (labels_take pattern.labels vote) takes in
     by_labels rejected pattern vote real parts.0 pattern.labels all parts.1
@@ -215,7 +218,8 @@ is_rejected rejected pattern all vote real takes =
 abbrev given : List GivenVote → List GivenApproval
 given votes = approvals_among votes
 
-given_at : (vote : GivenVote) (votes : List GivenVote) (k : ℕ) (approval : GivenApproval) → is_no_vote vote.value ≡ false
+given_at : (vote : GivenVote) (votes : List GivenVote) (k : ℕ) (approval : GivenApproval)
+    → is_no_vote vote.value ≡ false
     → slice_get (approval_of vote ∷ given votes) k ≡ Some approval
     → ((j : ℕ) → slice_get (given votes) j ≡ Some approval → is_no_vote approval.value ≡ false)
     → is_no_vote approval.value ≡ false
@@ -246,10 +250,11 @@ is_given (vote ∷ votes) k approval at =
     given_by vote votes k approval (is_no_vote vote.value) refl at (λ j. is_given votes j approval)
 
 pub approval_shut : (gate : GateRules) (place : ℕ) (pattern : PatternRule)
-    → slice_get gate.require.approvals place ≡ Some pattern → IsRejected gate.reject.approvals pattern
+    → slice_get gate.require.approvals place ≡ Some pattern → IsRejectedPattern gate.reject.approvals pattern
     → LetsNothingIn gate
 approval_shut gate place pattern at rejected = λ change current set. by_votes change current set _ refl where
-  by_votes : (change : Change) (current set : ℕ) (met : Bool) → some (matches pattern) (approvals_of change current) ≡ met
+  by_votes : (change : Change) (current set : ℕ) (met : Bool)
+      → some (matches pattern) (approvals_of change current) ≡ met
       → (condition : Condition) × IsBroken gate (standing_of change current set) condition
   by_votes change current set false is = (
     record { side = Require; clause = Approval (suc place) },

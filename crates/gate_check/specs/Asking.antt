@@ -91,11 +91,11 @@ abbrev pub status_lines : GateRules → Side → List (List ℕ)
 status_lines gate side =
     made_of (λ texts. condition_line gate side (codes "status") (status_words texts) ∷ []) (side_rules gate side).status
 
-abbrev pub asked_line : GateRules → Side → ℕ → PatternRule → List ℕ
-asked_line gate side place pattern = condition_line gate side (approval_pointer place) (pattern_words pattern)
+abbrev pub pattern_line : GateRules → Side → ℕ → PatternRule → List ℕ
+pattern_line gate side place pattern = condition_line gate side (approval_pointer place) (pattern_words pattern)
 
 abbrev pub approval_lines : GateRules → Side → ℕ → PatternRule → List (List ℕ)
-approval_lines gate side place pattern = asked_line gate side place pattern ∷ []
+approval_lines gate side place pattern = pattern_line gate side place pattern ∷ []
 
 -- the conditions of a side, in the order in which items are judged by them
 abbrev pub side_lines : GateRules → Side → List (List ℕ)

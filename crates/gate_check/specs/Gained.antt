@@ -4,6 +4,6 @@ use Rattle.std.specs.Prelude.{String}
 use Rattle.std.specs.BTreeSet.{BTreeSet}
 
 -- the set has just the texts that it had, and those of which this is so
-abbrev pub Gains : {Y : Type 0} → BTreeSet (String Y) → (List ℕ → Type 0) → BTreeSet (String Y) → Type 0
-Gains old P new =
+abbrev pub GainsTexts : {Y : Type 0} → BTreeSet (String Y) → (List ℕ → Type 0) → BTreeSet (String Y) → Type 0
+GainsTexts old P new =
     (text : List ℕ) → Contains (map string_bytes new.keys) text ↔ (Contains (map string_bytes old.keys) text ⊎ P text)

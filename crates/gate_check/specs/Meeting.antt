@@ -1,5 +1,6 @@
 -- Which conditions of a gate no item can meet beside the gate's others, and which approvals reject nothing.
-use Rattle.std.specs.Prelude.{◌≡◌, ℕ, ℤ, pos, List, [], ◌∷◌, Bool, true, false, not, ◌&&◌, ◌||◌, Option, None, Some, is_some}
+use Rattle.std.specs.Prelude.{◌≡◌, ℕ, ℤ, pos, List, [], ◌∷◌, Bool, true, false, not, ◌&&◌, ◌||◌, Option, None, Some}
+use Rattle.std.specs.Prelude.{is_some}
 use Rattle.std.specs.Prelude.{All, FitsSigned, unwrap_or}
 use Rattle.std.specs.Int.{w8}
 use Rattle.std.specs.Ordering.{int_eq}
@@ -34,7 +35,8 @@ comes_out wanted (Some so) = same_flag wanted so
 -- the conditions on a change's status let a change of this status in
 abbrev pub lets_in : GateRules → Status → Bool
 lets_in gate status = let standing = standing_with status in
-    comes_out true (compared gate.require standing OpenState) && comes_out true (compared gate.require standing StatusIn)
+    comes_out true (compared gate.require standing OpenState) && comes_out true
+    (compared gate.require standing StatusIn)
     && comes_out false (compared gate.reject standing OpenState)
     && comes_out false (compared gate.reject standing StatusIn)
 
@@ -67,7 +69,8 @@ is_no_vote value = int_eq value (pos 0)
 -- the votes of this label and value that the pattern takes are rejected, or there are none
 abbrev pub rejects_votes : List PatternRule → PatternRule → List ℕ → ℤ → Bool
 rejects_votes rejected pattern label value =
-    is_no_vote value || some (λ other. is_as_wide other pattern && matches other (wanted_vote pattern label value)) rejected
+    is_no_vote value || some
+    (λ other. is_as_wide other pattern && matches other (wanted_vote pattern label value)) rejected
 
 abbrev pub has_none : {A : Type 0} → List A → Bool
 has_none [] = true
@@ -133,8 +136,9 @@ LetsNothingIn gate = (change : Change) (current set : ℕ)
     → (condition : Condition) × IsBroken gate (standing_of change current set) condition
 
 -- every vote that the pattern takes is taken by one that is rejected
-abbrev pub IsRejected : List PatternRule → PatternRule → Type 0
-IsRejected rejected pattern = (vote : GivenApproval) → is_no_vote vote.value ≡ false → matches pattern vote ≡ true
+abbrev pub IsRejectedPattern : List PatternRule → PatternRule → Type 0
+IsRejectedPattern rejected pattern =
+    (vote : GivenApproval) → is_no_vote vote.value ≡ false → matches pattern vote ≡ true
     → some (λ other. matches other vote) rejected ≡ true
 
 -- no item of any change breaks the condition

@@ -1,7 +1,7 @@
 //! A line for each condition of a gate.
 
 ghost use Rattle.std.specs.Prelude.{◌≡◌, ◌++◌, IfOk, OnOk, map, string_bytes};
-ghost use Rattle.gate_check.specs.Asking.{asked_line, approval_lines, condition_line, condition_lines, current_lines};
+ghost use Rattle.gate_check.specs.Asking.{pattern_line, approval_lines, condition_line, condition_lines, current_lines};
 ghost use Rattle.gate_check.specs.Asking.{by_place, open_lines, side_lines, status_lines};
 
 use super::place::{approval_key, place_of};
@@ -103,7 +103,7 @@ fn approval_line(
     place: usize,
     pattern: &Pattern,
 ) -> Result<String, NoMemory>
-    ensures { IfOk result (λ line. string_bytes line ≡ asked_line gate.now side place pattern.now) }
+    ensures { IfOk result (λ line. string_bytes line ≡ pattern_line gate.now side place pattern.now) }
 {
     let key = approval_key(alloc, place)?;
     let words = pattern_words(alloc, pattern)?;

@@ -4,7 +4,7 @@ ghost use Rattle.std.specs.Prelude.{◌≡◌, IfOk, MatchBool, OnOk, map, strin
 ghost use Rattle.std.specs.FinMap as finite;
 ghost use Rattle.change_core.specs.Parts.{patch_of, sets_shown};
 ghost use Rattle.state_core.specs.State.{state_shown};
-ghost use Rattle.gate_check.specs.Gained.{Gains};
+ghost use Rattle.gate_check.specs.Gained.{GainsTexts};
 ghost use Rattle.gate_check.specs.Ignored.{AreIgnored, BeginsLike, IsNearMiss, LineMisses, MessageMisses};
 ghost use Rattle.gate_check.specs.Unused.{SomeIs, messages_in, messages_of};
 
@@ -41,7 +41,7 @@ fn add_changes(
     changes: &JoinMap<u32, SharedChange, Global>,
     values: &mut BTreeSet<String>,
 ) -> Result<(), NoMemory>
-    ensures { OnOk result (Gains values.old
+    ensures { OnOk result (GainsTexts values.old
         (λ value. SomeIs (MessageMisses bases.now value) (messages_in (state_shown changes.now))) values.new) }
 {
     for (number, change) in changes {
@@ -58,7 +58,7 @@ fn add_sets(
     sets: &JoinList<u32, Register<Stamp, Commit<Global>>, Global>,
     values: &mut BTreeSet<String>,
 ) -> Result<(), NoMemory>
-    ensures { OnOk result (Gains values.old
+    ensures { OnOk result (GainsTexts values.old
         (λ value. SomeIs (MessageMisses bases.now value) (messages_of (finite.entries (sets_shown sets.now))))
         values.new) }
 {
@@ -76,7 +76,7 @@ fn add_register(
     register: &Register<Stamp, Commit<Global>>,
     values: &mut BTreeSet<String>,
 ) -> Result<(), NoMemory>
-    ensures { OnOk result (Gains values.old
+    ensures { OnOk result (GainsTexts values.old
         (λ value. MessageMisses bases.now value (patch_of register.now.1).message) values.new) }
 {
     add_message(alloc, bases, register.value().message.as_str(), values)
@@ -89,7 +89,7 @@ fn add_message(
     message: &str,
     values: &mut BTreeSet<String>,
 ) -> Result<(), NoMemory>
-    ensures { OnOk result (Gains values.old (λ value. MessageMisses bases.now value message.now) values.new) }
+    ensures { OnOk result (GainsTexts values.old (λ value. MessageMisses bases.now value message.now) values.new) }
 {
     for line in message.split('\n') {
         add_line(alloc, bases, line, values)?;
@@ -104,7 +104,7 @@ fn add_line(
     line: &str,
     values: &mut BTreeSet<String>,
 ) -> Result<(), NoMemory>
-    ensures { OnOk result (Gains values.old (λ value. LineMisses bases.now value line.now) values.new) }
+    ensures { OnOk result (GainsTexts values.old (λ value. LineMisses bases.now value line.now) values.new) }
 {
     footers_are_unique();
     let Some(value) = footer_value(line) else {

@@ -8,7 +8,7 @@ ghost use Rattle.gate_rules.specs.Rules.{GateRules, PatternRule};
 ghost use Rattle.gate_rules.specs.declared.condition.Clause.TheVariants.{Approval};
 ghost use Rattle.gate_rules.specs.declared.condition.Side.{Side};
 ghost use Rattle.gate_rules.specs.declared.condition.Side.TheVariants.{Reject, Require};
-ghost use Rattle.gate_check.specs.Meeting.{IsNeverBroken, IsRejected, IsWritable, LetsNothingIn, TakesVoteOf};
+ghost use Rattle.gate_check.specs.Meeting.{IsNeverBroken, IsRejectedPattern, IsWritable, LetsNothingIn, TakesVoteOf};
 ghost use Rattle.gate_check.specs.Meeting.{is_current_never_met, is_never_met, is_open_never_met, is_status_never_met};
 ghost use Rattle.gate_check.specs.Meeting.{lets_none_in, rejects_nothing};
 ghost use Rattle.gate_check.specs.Names.{AreTheSameTexts};
@@ -29,7 +29,7 @@ pub fn what_is_never_met_lets_nothing_in()
         → slice_get gate.require.approvals place ≡ Some pattern → is_never_met gate Require pattern ≡ true
         → LetsNothingIn gate }
     ensures exact { (gate : GateRules) (pattern : PatternRule)
-        → (is_never_met gate Require pattern ≡ true) ↔ IsRejected gate.reject.approvals pattern }
+        → (is_never_met gate Require pattern ≡ true) ↔ IsRejectedPattern gate.reject.approvals pattern }
 {}
 
 /// Where an approval that is rejected rejects nothing, no item of any change breaks that condition. Any other one, if

@@ -8,7 +8,7 @@ use Rattle.json.specs.Written.{Written, Writes}
 use Rattle.json_line.specs.Adding.{adds_then, flat_more}
 use Rattle.json_line.specs.Tokens.{AddsTokens}
 use Rattle.state_core.specs.declared.item.Item.{Item}
-use Rattle.page_text.specs.Sheets.{HasNoted, IsBegun, IsWhole, Notes}
+use Rattle.page_text.specs.Sheets.{HasNoted, IsBegun, IsWholeSheet, NotesTokens}
 use Rattle.page_text.specs.Waiting.{EndsInWaiting, waiting_tokens}
 use Rattle.page_text.proofs.Adding.{finished}
 
@@ -23,37 +23,43 @@ has_noted a None (Some z) xs ys p q = absurd q
 has_noted None (Some y) (Some z) xs ys p q = absurd p
 has_noted (Some x) (Some y) (Some z) xs ys p q = adds_then p q
 
-pub notes_then : {a b c : Option Written} {xs ys : List Token} → Notes xs a b → Notes ys b c → Notes (xs ++ ys) a c
+pub notes_then : {a b c : Option Written} {xs ys : List Token} → NotesTokens xs a b → NotesTokens ys b c
+    → NotesTokens (xs ++ ys) a c
 notes_then {a} {b} {c} {xs} {ys} p q = record { noted = has_noted a b c xs ys p.noted q.noted }
 
 -- the same tokens, under another name
-pub notes_same : {a b : Option Written} {xs ys : List Token} → Notes xs a b → xs ≡ ys → Notes ys a b
-notes_same {a} {b} p e = subst (λ tokens. Notes tokens a b) e p
+pub notes_same : {a b : Option Written} {xs ys : List Token} → NotesTokens xs a b → xs ≡ ys → NotesTokens ys a b
+notes_same {a} {b} p e = subst (λ tokens. NotesTokens tokens a b) e p
 
 -- no token
-pub notes_none : (a : Option Written) → Notes [] a a
+pub notes_none : (a : Option Written) → NotesTokens [] a a
 notes_none None = record { noted = tt }
 notes_none (Some w) = record { noted = record { before = refl; tokens = sym (append-nil w.tokens) } }
 
 -- a list's tokens so far, and those of the next one
-pub notes_more : {X : Type 0} {a b c : Option Written} (f : X → List Token) (xs : List X) (i : ℕ) (d : X) → i < length xs
-    → Notes (flat_map f (take i xs)) a b → Notes (f (get_or xs i d)) b c → Notes (flat_map f (take (i + 1) xs)) a c
+pub notes_more : {X : Type 0} {a b c : Option Written} (f : X → List Token) (xs : List X) (i : ℕ) (d : X)
+    → i < length xs
+    → NotesTokens (flat_map f (take i xs)) a b → NotesTokens (f (get_or xs i d)) b c
+    → NotesTokens (flat_map f (take (i + 1) xs)) a c
 notes_more f xs i d inside p q = notes_same (notes_then p q) (flat_more f xs i d inside)
 
 -- what a text is that began with nothing
-whole_text : (a b : Option Written) (xs : List Token) (text : List ℕ) → IsBegun a → HasNoted xs a b → IsWhole b text
+whole_text : (a b : Option Written) (xs : List Token) (text : List ℕ) → IsBegun a → HasNoted xs a b
+    → IsWholeSheet b text
     → text ≡ print xs
 whole_text None b xs text begun p whole = absurd begun
 whole_text (Some a) None xs text begun p whole = absurd whole
 whole_text (Some a) (Some b) xs text begun p whole = finished begun.0 begun.1 p whole
 
-pub notes_all : (a b : Option Written) {xs : List Token} (text : List ℕ) → IsBegun a → Notes xs a b → IsWhole b text
+pub notes_all : (a b : Option Written) {xs : List Token} (text : List ℕ) → IsBegun a → NotesTokens xs a b
+    → IsWholeSheet b text
     → text ≡ print xs
 notes_all a b {xs} text begun p whole = whole_text a b xs text begun p.noted whole
 
 -- the text ends with the items
-ends_so : (items : List Item) (a b : Option Written) (text : List ℕ) → HasNoted (waiting_tokens items ++ end_object ∷ []) a b
-    → IsWhole b text → EndsInWaiting items text
+ends_so : (items : List Item) (a b : Option Written) (text : List ℕ)
+    → HasNoted (waiting_tokens items ++ end_object ∷ []) a b
+    → IsWholeSheet b text → EndsInWaiting items text
 ends_so items a None text p whole = absurd whole
 ends_so items None (Some b) text p whole = absurd p
 ends_so items (Some a) (Some b) text p whole = record {
@@ -63,5 +69,5 @@ ends_so items (Some a) (Some b) text p whole = record {
 }
 
 pub has_waiting : (items : List Item) (a b : Option Written) (text : List ℕ)
-    → Notes (waiting_tokens items ++ end_object ∷ []) a b → IsWhole b text → EndsInWaiting items text
+    → NotesTokens (waiting_tokens items ++ end_object ∷ []) a b → IsWholeSheet b text → EndsInWaiting items text
 has_waiting items a b text p whole = ends_so items a b text p.noted whole

@@ -1,5 +1,6 @@
 -- The pages of a list, and the report.
-use Rattle.std.proofs.Common.{◌≡◌, ◌∙◌, ◌+◌, ◌*◌, ◌-◌, ℕ, zero, suc, List, [], ◌∷◌, ◌++◌, Bool, true, None, map, flat_map, length, take, drop, refl, ap, sym, arith}
+use Rattle.std.proofs.Common.{◌≡◌, ◌∙◌, ◌+◌, ◌*◌, ◌-◌, ℕ, zero, suc, List, [], ◌∷◌, ◌++◌, Bool, true, None, map}
+use Rattle.std.proofs.Common.{flat_map, length, take, drop, refl, ap, sym, arith}
 use Rattle.std.specs.Prelude.{filter, ◌&&◌, if◌then◌else◌}
 use Rattle.std.proofs.Math.Seq.{take-add}
 use Rattle.std.proofs.lemmas.List.Concat.{flat_map-append}
@@ -12,7 +13,8 @@ use Rattle.page_routes.specs.declared.route.Choice.{Choice}
 use Rattle.page_routes.specs.declared.route.Shown.TheVariants.{All}
 use Rattle.page_text.specs.declared.rows.Row.{Row}
 use Rattle.page_text.specs.declared.rows.Row.TheVariants.{Enters, Waits}
-use Rattle.page_text.specs.Rows.{all_rows, chosen_rows, entering, has_reason, has_words, is_asked, is_shown, row_item, row_line, rows_on, rows_to, searched}
+use Rattle.page_text.specs.Rows.{all_rows, chosen_rows, entering, has_reason, has_words, is_asked, is_shown, row_item}
+use Rattle.page_text.specs.Rows.{row_line, rows_on, rows_to, words_searched}
 
 no_rows : {X : Type 0} (rows : List X) → [] ≡ take (100 * 0) rows
 no_rows [] = refl
@@ -36,10 +38,10 @@ asked_all : (state : State) (choice : Choice) → choice.shown ≡ All → choic
     → (row : Row) → is_asked state choice row ≡ true
 asked_all state choice shown reason words row =
     ap (λ s. is_shown s row && has_reason choice.reason row
-    && has_words state (searched choice.words) (row_item row)) shown
+    && has_words state (words_searched choice.words) (row_item row)) shown
     ∙ ap (λ r. is_shown All row && has_reason r row
-    && has_words state (searched choice.words) (row_item row)) reason
-    ∙ ap (λ w. is_shown All row && true && has_words state (searched w) (row_item row)) words
+    && has_words state (words_searched choice.words) (row_item row)) reason
+    ∙ ap (λ w. is_shown All row && true && has_words state (words_searched w) (row_item row)) words
     ∙ ap (λ b. b && true && true) (shown_all row)
 
 kept : {X : Type 0} (test : X → Bool) → ((x : X) → test x ≡ true) → (xs : List X) → filter test xs ≡ xs

@@ -1,8 +1,10 @@
 -- Changes that are reached one after the other.
 use Rattle.std.proofs.Common.{◌≡◌, ◌∙◌, ◌+◌, ◌<◌, ◌≤◌, ℕ, zero, suc, List, [], ◌∷◌, ◌++◌, Contains, Option, None, Some}
-use Rattle.std.proofs.Common.{length, take, get_or, slice_get, refl, sym, subst, ap, inl, inr, arith, append-nil, append_assoc}
+use Rattle.std.proofs.Common.{length, take, get_or, slice_get, refl, sym, subst, ap, inl, inr, arith, append-nil}
+use Rattle.std.proofs.Common.{append_assoc}
 use Rattle.std.proofs.lemmas.List.{take_more}
-use Rattle.std.proofs.lemmas.List.Elements.{Contains-push, Contains-push_cases, Contains-append_left, Contains-append_right, Contains-append_cases, Contains-get_or}
+use Rattle.std.proofs.lemmas.List.Elements.{Contains-push, Contains-push_cases, Contains-append_left}
+use Rattle.std.proofs.lemmas.List.Elements.{Contains-append_right, Contains-append_cases, Contains-get_or}
 use Rattle.walk_core.specs.Ranks.{LeadsTo}
 use Rattle.walk_core.specs.Walks.{Leads-after, Walk}
 use Rattle.gate_rules.specs.Rules.{GateRules}
@@ -12,7 +14,8 @@ use Rattle.state_core.specs.declared.item.Item.{Item}
 use Rattle.change_core.specs.Views.{IsKnownSet}
 use Rattle.graph_core.specs.Dependencies.{Names}
 use Rattle.why_text.specs.Asked.{IsItemAsked}
-use Rattle.page_text.specs.Reached.{AddsAll, AreDistinct, AreNames, AreReachedChanges, HasReached, NamesFrom, set_seen}
+use Rattle.page_text.specs.Reached.{AddsNumbers, AreDistinct, AreNames, AreReachedChanges, HasReached, NamesFrom}
+use Rattle.page_text.specs.Reached.{set_seen}
 
 nothing : {X : Type 0} (x : X) → ¬ Contains [] x
 nothing x c = let less = c.1 in absurd (omega arith)
@@ -33,18 +36,19 @@ distinct_push (x ∷ xs) y once new = (
 -- ---- one number is added, or is there
 
 pub one_added : (old : List ℕ) (number : ℕ) → ¬ Contains old number
-    → AddsAll (λ other. other ≡ number) old (old ++ number ∷ [])
+    → AddsNumbers (λ other. other ≡ number) old (old ++ number ∷ [])
 one_added old number new = record {
   added = number ∷ [];
   is = refl;
-  from = λ other c. elim (Contains-push_cases [] number other c) [ inl no_such ↦ absurd (nothing other no_such) | inr same ↦ sym same ];
+  from = λ other c. elim
+      (Contains-push_cases [] number other c) [ inl no_such ↦ absurd (nothing other no_such) | inr same ↦ sym same ];
   all = λ other same. subst (Contains (old ++ number ∷ [])) (sym same) (Contains-push old number);
   once = λ once. distinct_push old number once new;
 }
 
 -- ---- all of a list are added
 
-pub none_added : (old : List ℕ) → AddsAll (Contains []) old old
+pub none_added : (old : List ℕ) → AddsNumbers (Contains []) old old
 none_added old = record {
   added = [];
   is = sym (append-nil old);
@@ -53,17 +57,20 @@ none_added old = record {
   once = λ once. once;
 }
 
-pub more_added : (more old now new : List ℕ) (at d : ℕ) → at < length more → AddsAll (Contains (take at more)) old now
-    → AddsAll (λ other. other ≡ get_or more at d) now new → AddsAll (Contains (take (at + 1) more)) old new
+pub more_added : (more old now new : List ℕ) (at d : ℕ) → at < length more
+    → AddsNumbers (Contains (take at more)) old now
+    → AddsNumbers (λ other. other ≡ get_or more at d) now new → AddsNumbers (Contains (take (at + 1) more)) old new
 more_added more old now new at d inside so_far one = record {
   added = so_far.added ++ one.added;
   is = one.is ∙ ap (λ l. l ++ one.added) so_far.is ∙ append_assoc old so_far.added one.added;
   from = λ other c. elim (Contains-append_cases so_far.added one.added other c) [
-    | inl before ↦ subst (λ l. Contains l other) (sym longer) (Contains-append_left (take at more) (get_or more at d ∷ []) other (so_far.from other before))
+    | inl before ↦ subst (λ l. Contains l other) (sym longer)
+        (Contains-append_left (take at more) (get_or more at d ∷ []) other (so_far.from other before))
     | inr last ↦ subst (λ l. Contains l other) (sym longer) (subst (Contains (take at more ++ get_or more at d ∷ [])) (sym (one.from other last)) (Contains-push (take at more) (get_or more at d)))
   ];
   all = λ other c. elim (Contains-push_cases (take at more) (get_or more at d) other (subst (λ l. Contains l other) longer c)) [
-    | inl before ↦ subst (λ l. Contains l other) (sym one.is) (Contains-append_left now one.added other (so_far.all other before))
+    | inl before ↦ subst (λ l. Contains l other) (sym one.is)
+        (Contains-append_left now one.added other (so_far.all other before))
     | inr same ↦ one.all other (sym same)
   ];
   once = λ once. one.once (so_far.once once);
@@ -77,7 +84,8 @@ more_added more old now new at d inside so_far one = record {
 same_item : (a b : Item) → a.change ≡ b.change → a.set ≡ b.set → a ≡ b
 same_item a b change set = λ i. record { change = change i; set = set i }
 
-greatest_is : (state : State) (a b : Item) → a.change ≡ b.change → IsCurrentItem state a → IsCurrentItem state b → a.set ≡ b.set
+greatest_is : (state : State) (a b : Item) → a.change ≡ b.change → IsCurrentItem state a → IsCurrentItem state b
+    → a.set ≡ b.set
 greatest_is state a b change is_a is_b =
     let one : is_a.change ≡ is_b.change = same_change in
     let forth : a.set ≤ b.set = is_b.greatest.greatest a.set (subst (λ c. IsKnownSet c a.set) one is_a.greatest.known) in
@@ -98,7 +106,7 @@ one_item state item number a b = asked_once state number (set_seen item number) 
 
 pub names_added : (gate : GateRules) (state : State) (item : Item) (number : ℕ) (from : Item) (needs old new : List ℕ)
     → IsItemAsked state number (set_seen item number) from → AreNames gate state from needs
-    → AddsAll (Contains needs) old new → AddsAll (NamesFrom gate state item number) old new
+    → AddsNumbers (Contains needs) old new → AddsNumbers (NamesFrom gate state item number) old new
 names_added gate state item number from needs old new asked named adds = record {
   added = adds.added;
   is = adds.is;
@@ -142,10 +150,11 @@ lead_on : {N : Type 0} (E : N → N → Type 0) (x y z : N) → LeadsTo E x y �
 lead_on E x y z leads edge = (leads.0 + 1, Leads-after E (λ w. w ≡ z) leads.0 1 x y leads.1 (z, edge, refl))
 
 pub step : (gate : GateRules) (state : State) (item : Item) (at d : ℕ) (old new : List ℕ) → at < length old
-    → HasReached gate state item at old → AddsAll (NamesFrom gate state item (get_or old at d)) old new
+    → HasReached gate state item at old → AddsNumbers (NamesFrom gate state item (get_or old at d)) old new
     → HasReached gate state item (at + 1) new
 step gate state item at d old new inside reached adds = record {
-  first = subst (λ l. slice_get l 0 ≡ Some item.change) (sym adds.is) (first_kept old adds.added item.change reached.first);
+  first =
+      subst (λ l. slice_get l 0 ≡ Some item.change) (sym adds.is) (first_kept old adds.added item.change reached.first);
   once = adds.once reached.once;
   each = λ number c. elim (Contains-append_cases old adds.added number (subst (λ l. Contains l number) adds.is c)) [
     | inl before ↦ reached.each number before
@@ -159,7 +168,8 @@ step gate state item at d old new inside reached adds = record {
   ];
 } where
   longer : take (at + 1) new ≡ take at old ++ get_or old at d ∷ []
-  longer = ap (take (at + 1)) adds.is ∙ take_before old adds.added (at + 1) (omega (arith, inside)) ∙ take_more old at d inside
+  longer = ap (take (at + 1)) adds.is ∙ take_before old adds.added (at + 1) (omega (arith, inside))
+      ∙ take_more old at d inside
 
 -- what is reached from a member is a member
 closed_walk : {N : Type 0} (E : N → N → Type 0) (xs : List N) → ((x y : N) → Contains xs x → E x y → Contains xs y)

@@ -1,5 +1,6 @@
 -- The rows of a table, one after another, and the table in its page.
-use Rattle.std.proofs.Common.{◌≡◌, ◌∙◌, ◌+◌, ◌<◌, ℕ, List, [], ◌∷◌, ◌++◌, length, take, get_or, refl, ap, sym, subst, append_assoc, append-nil}
+use Rattle.std.proofs.Common.{◌≡◌, ◌∙◌, ◌+◌, ◌<◌, ℕ, List, [], ◌∷◌, ◌++◌, length, take, get_or, refl, ap, sym, subst}
+use Rattle.std.proofs.Common.{append_assoc, append-nil}
 use Rattle.std.proofs.Common.{All, Contains, drop}
 use Rattle.std.proofs.lemmas.List.{take_more}
 use Rattle.std.proofs.lemmas.List.Elements.{All-contains_itself, All-drop, All-filter, All-same, All-take}
@@ -13,7 +14,8 @@ use Rattle.state_core.specs.State.{State}
 use Rattle.state_core.specs.declared.item.Item.{Item}
 use Rattle.page_text.specs.declared.rows.Row.{Row}
 use Rattle.page_text.specs.declared.rows.Row.TheVariants.{Waits}
-use Rattle.page_text.specs.Table.{AddsCause, AddsEnd, AddsRow, AddsRows, AddsTable, AreRows, EndsRow, HasTable, IsCauseHtml}
+use Rattle.page_text.specs.Table.{AddsCause, AddsEnd, AddsRow, AddsRows, AddsTable, AreRows, EndsRow, HasTable}
+use Rattle.page_text.specs.Table.{IsCauseHtml}
 use Rattle.page_text.specs.Table.{about_html, front_html, left_html, place_html, table_begins, table_ends, why_html}
 use Rattle.std.specs.Prelude.{◌-◌, ◌*◌, IfSome, Option, None, Some, codes}
 use Rattle.markup_text.specs.Adding.{adds_then, grows_then, none_is_some}
@@ -21,13 +23,13 @@ use Rattle.markup_text.specs.Growing.{Adds, AddsAll, Grows}
 use Rattle.page_text.specs.Rowless.{AddsRowless, IsRowless}
 use Rattle.page_text.specs.Rows.{all_rows, chosen_rows, is_asked, row_item, rows_on}
 use Rattle.page_text.specs.Titles.{IsEnded}
-use Rattle.page_text.specs.Walk.{IsCauseOf}
+use Rattle.page_text.specs.Walk.{IsEndOfChain}
 use Rattle.page_text.proofs.Adding.{then2}
 use Rattle.page_text.proofs.RowlessSteps.{end_rowless, lacks_rows, rowless_append}
 
 module _ (state : State) (verdicts : Judged) where
   -- the end of an item's chain
-  pub end_added : (item : Item) (cause : Left) (a b : Option (List ℕ)) → IsCauseOf state verdicts item cause
+  pub end_added : (item : Item) (cause : Left) (a b : Option (List ℕ)) → IsEndOfChain state verdicts item cause
       → Adds (left_html cause) a b → Grows (AddsEnd state verdicts item) a b
   end_added item cause a None ends adds = tt
   end_added item cause None (Some new) ends adds = absurd adds
@@ -41,7 +43,8 @@ module _ (state : State) (verdicts : Judged) where
   cause_added left change (Some old) (Some new) is end =
       let html = left_html end.cause in record {
         cause = html;
-        shown = subst (λ (refusal : Refusal). IsCauseHtml state verdicts left refusal html) (sym is) (end.cause, end.ends, refl);
+        shown = subst (λ (refusal : Refusal). IsCauseHtml state verdicts left refusal html) (sym is)
+            (end.cause, end.ends, refl);
         is = end.is;
       }
 
@@ -73,7 +76,8 @@ module _ (gate : GateRules) (state : State) (verdicts : Judged) where
       → Adds (place_html row) a b → Adds (about_html state (row_item row)) b c → Adds more c d
       → Grows (AddsRow gate state verdicts row) a d
   row_added row a b c d more ends p q r =
-      grows_then a c d (λ x y z f m. record { more = more; ends = ends; is = then2 x y z (front_html state row) more f m })
+      grows_then a c d
+      (λ x y z f m. record { more = more; ends = ends; is = then2 x y z (front_html state row) more f m })
       (adds_then a b c (place_html row) (about_html state (row_item row)) p q) r
 
   -- of which the last one is another HTML
@@ -145,7 +149,8 @@ module _ (gate : GateRules) (state : State) (verdicts : Judged) where
 
   -- the table was added
   pub table_added : (page : ℕ) (rows shown : List Row) (a b c d : Option (List ℕ)) → shown ≡ rows_on page rows
-      → Adds (table_begins page (length rows)) a b → Grows (AddsRows gate state verdicts shown) b c → Adds table_ends c d
+      → Adds (table_begins page (length rows)) a b → Grows (AddsRows gate state verdicts shown) b c
+      → Adds table_ends c d
       → Grows (AddsTable gate state verdicts page rows) a d
   table_added page rows shown a b c None are begins added ends = tt
   table_added page rows shown a b None (Some z) are begins added ends = absurd ends
@@ -155,7 +160,8 @@ module _ (gate : GateRules) (state : State) (verdicts : Judged) where
       let first = table_begins page (length rows) in record {
         table = added.table;
         each = subst (λ list. AreRows gate state verdicts list added.table) are added.each;
-        is = ends ∙ ap (λ l. l ++ table_ends) (added.is ∙ ap (λ l. l ++ added.table) begins ∙ append_assoc old first added.table)
+        is = ends ∙ ap (λ l. l ++ table_ends)
+            (added.is ∙ ap (λ l. l ++ added.table) begins ∙ append_assoc old first added.table)
             ∙ append_assoc old (first ++ added.table) table_ends;
       }
 
@@ -175,5 +181,6 @@ module _ (gate : GateRules) (state : State) (verdicts : Judged) where
         none_before = lacks_rows x before;
         each = added.each;
         none_after = lacks_rows (after.html ++ ends) (rowless_append after.html ends after.rowless end_rowless);
-        is = ended ∙ ap (λ l. l ++ ends) (after.is ∙ ap (λ l. l ++ after.html) added.is) ∙ append_assoc (x ++ body) after.html ends;
+        is = ended ∙ ap (λ l. l ++ ends) (after.is ∙ ap (λ l. l ++ after.html) added.is)
+            ∙ append_assoc (x ++ body) after.html ends;
       }

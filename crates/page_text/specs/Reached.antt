@@ -1,5 +1,6 @@
 -- The changes that an item waits for, over all that are named on the way.
-use Rattle.std.specs.Prelude.{◌≡◌, ◌↔◌, ◌≤◌, ℕ, ◌==◌, List, [], ◌∷◌, ◌++◌, Option, None, Some, Contains, length, slice_get, take}
+use Rattle.std.specs.Prelude.{◌≡◌, ◌↔◌, ◌≤◌, ℕ, ◌==◌, List, [], ◌∷◌, ◌++◌, Option, None, Some, Contains, length}
+use Rattle.std.specs.Prelude.{slice_get, take}
 use Rattle.std.specs.Prelude.{if◌then◌else◌}
 use Rattle.std.specs.List.Sorted.{IsStrictlyIncreasing}
 use Rattle.walk_core.specs.Ranks.{LeadsTo}
@@ -29,7 +30,7 @@ AreDistinct [] = Unit {0}
 AreDistinct (number ∷ numbers) = ¬ Contains numbers number × AreDistinct numbers
 
 -- the numbers of a kind are added at the end, as far as they aren't there
-pub record AddsAll (Kind : ℕ → Type 0) (old new : List ℕ) : Type 0 where
+pub record AddsNumbers (Kind : ℕ → Type 0) (old new : List ℕ) : Type 0 where
   pub added : List ℕ
   pub is : new ≡ old ++ added
   pub from : (number : ℕ) → Contains added number → Kind number

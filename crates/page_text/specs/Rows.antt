@@ -1,6 +1,7 @@
 -- The rows of a list of items, which of them are asked for, and which are on a page. What is listed is the project's
 -- own; that an item is over is as in `report_changes`.
-use Rattle.std.specs.Prelude.{ℕ, zero, suc, Bool, true, false, ◌&&◌, ◌||◌, ◌-◌, ◌*◌, not, List, [], ◌∷◌, ◌++◌, Option, None, Some}
+use Rattle.std.specs.Prelude.{ℕ, zero, suc, Bool, true, false, ◌&&◌, ◌||◌, ◌-◌, ◌*◌, not, List, [], ◌∷◌, ◌++◌, Option}
+use Rattle.std.specs.Prelude.{None, Some}
 use Rattle.std.specs.Prelude.{String, decimal, drop, filter, map, option_map, string_bytes, take}
 use Rattle.std.specs.Char.{to_ascii_lowercase}
 use Rattle.std.specs.declared.alloc.Global.{Global}
@@ -70,8 +71,8 @@ has_reason None row = true
 has_reason (Some reason) row = waits_for reason row
 
 -- the words that are searched for in lower case, if some are
-abbrev pub searched : Option (String Global) → Option (List ℕ)
-searched words = option_map (map to_ascii_lowercase) (option_map string_bytes words)
+abbrev pub words_searched : Option (String Global) → Option (List ℕ)
+words_searched words = option_map (map to_ascii_lowercase) (option_map string_bytes words)
 
 -- the subject or the number of the change contains the words in lower case, without regard to the case of its own ASCII
 -- letters
@@ -88,7 +89,7 @@ has_words state (Some words) item = is_found state words item
 abbrev pub is_asked : State → Choice → Row → Bool
 is_asked state choice row =
     is_shown choice.shown row && has_reason choice.reason row
-    && has_words state (searched choice.words) (row_item row)
+    && has_words state (words_searched choice.words) (row_item row)
 
 -- the rows that are asked for
 abbrev pub chosen_rows : State → Choice → Judged → List Row

@@ -26,7 +26,7 @@ HasNoted added old None = Unit {0}
 HasNoted added None (Some new) = ⊥
 HasNoted added (Some old) (Some new) = AddsTokens old new added
 
-pub record Notes (added : List Token) (old new : Option Written) : Type 0 where
+pub record NotesTokens (added : List Token) (old new : Option Written) : Type 0 where
   pub noted : HasNoted added old new
 
 -- nothing was written yet
@@ -35,6 +35,6 @@ IsBegun None = ⊥
 IsBegun (Some written) = (written.before ≡ []) × (written.tokens ≡ [])
 
 -- the text is what was written
-abbrev pub IsWhole : Option Written → List ℕ → Type 0
-IsWhole None text = ⊥
-IsWhole (Some written) text = text ≡ written.before ++ print written.tokens
+abbrev pub IsWholeSheet : Option Written → List ℕ → Type 0
+IsWholeSheet None text = ⊥
+IsWholeSheet (Some written) text = text ≡ written.before ++ print written.tokens

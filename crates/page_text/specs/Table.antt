@@ -15,7 +15,7 @@ use Rattle.page_text.specs.declared.rows.Row.TheVariants.{Enters, Waits}
 use Rattle.page_text.specs.Rowless.{LacksRows}
 use Rattle.page_text.specs.Rows.{row_item, rows_on}
 use Rattle.page_text.specs.Subject.{subject_of}
-use Rattle.page_text.specs.Walk.{IsCauseOf}
+use Rattle.page_text.specs.Walk.{IsEndOfChain}
 use Rattle.page_text.specs.Wanted.{wanted_html}
 
 -- an item with a link to its page: <a href="/change/101,2">101,2</a>
@@ -62,12 +62,12 @@ IsCauseHtml state verdicts left (Own condition) html = html ≡ []
 IsCauseHtml state verdicts left Cycle html = html ≡ []
 IsCauseHtml state verdicts left (Unknown change) html = html ≡ []
 IsCauseHtml state verdicts left (Dependency change) html =
-    (cause : Left) × IsCauseOf state verdicts left.item cause × (html ≡ left_html cause)
+    (cause : Left) × IsEndOfChain state verdicts left.item cause × (html ≡ left_html cause)
 
 -- the item at the end of the chain from an item was added, and nothing else
 pub record AddsEnd (state : State) (verdicts : Judged) (item : Item) (old new : List ℕ) : Type 0 where
   pub cause : Left
-  pub ends : IsCauseOf state verdicts item cause
+  pub ends : IsEndOfChain state verdicts item cause
   pub is : new ≡ old ++ left_html cause
 
 -- the cause was added, and nothing else

@@ -8,7 +8,7 @@ use Rattle.ready_core.specs.declared.verdicts.Left.{Left}
 use Rattle.why_text.specs.Chain.{IsChainOf}
 
 -- the verdict is one of these, and on this item
-pub record IsLeftOf (out : List Left) (item : Item) (left : Left) : Type 0 where
+pub record IsListedVerdict (out : List Left) (item : Item) (left : Left) : Type 0 where
   pub there : Contains out left
   pub of : left.item ≡ item
 
@@ -20,6 +20,6 @@ pub record IsWalk (state : State) (verdicts : Judged) (item : Item) (steps : Lis
   pub is : steps ≡ waiting ++ cause ∷ []
 
 -- the cause at the end of the item's chain
-pub record IsCauseOf (state : State) (verdicts : Judged) (item : Item) (cause : Left) : Type 0 where
+pub record IsEndOfChain (state : State) (verdicts : Judged) (item : Item) (cause : Left) : Type 0 where
   pub waiting : List Left
   pub chain : IsChainOf state verdicts item waiting cause

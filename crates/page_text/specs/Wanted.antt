@@ -9,15 +9,15 @@ use Rattle.gate_rules.specs.declared.condition.Clause.TheVariants.{OpenState, Cu
 use Rattle.gate_rules.specs.declared.condition.Condition.{Condition}
 use Rattle.markup_text.specs.Html.{html_of}
 
-abbrev pub open_words : Option Bool → List ℕ
-open_words (Some false) = codes "not open"
-open_words (Some true) = codes "open"
-open_words None = codes "open"
+abbrev pub open_phrase : Option Bool → List ℕ
+open_phrase (Some false) = codes "not open"
+open_phrase (Some true) = codes "open"
+open_phrase None = codes "open"
 
-abbrev pub current_words : Option Bool → List ℕ
-current_words (Some false) = codes "not the current patch set"
-current_words (Some true) = codes "the current patch set"
-current_words None = codes "the current patch set"
+abbrev pub current_phrase : Option Bool → List ℕ
+current_phrase (Some false) = codes "not the current patch set"
+current_phrase (Some true) = codes "the current patch set"
+current_phrase None = codes "the current patch set"
 
 -- texts, the first one behind this, and each further one behind that
 abbrev pub separated : List ℕ → List ℕ → List (List ℕ) → List ℕ
@@ -60,8 +60,8 @@ approval_html None = []
 approval_html (Some pattern) = pattern_html pattern
 
 abbrev pub clause_html : SideRules → Clause → List ℕ
-clause_html rules OpenState = open_words rules.is_open
-clause_html rules CurrentSet = current_words rules.is_current
+clause_html rules OpenState = open_phrase rules.is_open
+clause_html rules CurrentSet = current_phrase rules.is_current
 clause_html rules StatusIn = status_html rules.status
 clause_html rules (Approval number) = approval_html (slice_get rules.approvals (number - 1))
 

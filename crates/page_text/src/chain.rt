@@ -5,7 +5,7 @@ ghost use Rattle.std.specs.List.Sorted.{IsStrictlySortedBy};
 ghost use Rattle.state_core.specs.Items.{item_cmp};
 ghost use Rattle.ready_core.specs.Verdicts.{AreVerdicts, items_out};
 ghost use Rattle.page_text.specs.Rows.{all_rows};
-ghost use Rattle.page_text.specs.Walk.{IsCauseOf, IsLeftOf, IsWalk};
+ghost use Rattle.page_text.specs.Walk.{IsEndOfChain, IsListedVerdict, IsWalk};
 ghost use Rattle.page_text.specs.declared.rows.Row.TheVariants.{Waits};
 
 use gate_rules::Gate;
@@ -53,7 +53,7 @@ pub fn cause_of(
 ) -> Result<Left, NoMemory>
     requires judged { AreVerdicts gate.now state.now verdicts.now }
     requires there { Contains (all_rows verdicts.now) (Waits first) }
-    ensures { IfOk result (IsCauseOf state.now verdicts.now first.item) }
+    ensures { IfOk result (IsEndOfChain state.now verdicts.now first.item) }
 {
     let chain = chain_of(alloc, gate, state, verdicts, first.item)?;
     Ok(chain.cause)
@@ -62,7 +62,7 @@ pub fn cause_of(
 /// The verdict on an item, if it is left out. It costs O(log n) for n items.
 pub fn left_at(out: &[Left], item: Item) -> Option<Left>
     requires { IsStrictlySortedBy item_cmp (items_out out.now) }
-    ensures { MatchOption result (¬ Contains (items_out out.now) item) (IsLeftOf out.now item) }
+    ensures { MatchOption result (¬ Contains (items_out out.now) item) (IsListedVerdict out.now item) }
 {
     let place = place_out(out, item)?;
     Some(out[place])

@@ -4,7 +4,7 @@ ghost use Rattle.std.specs.Prelude.{◌≡◌, IfOk, flat_map};
 ghost use Rattle.json.specs.Print.{print};
 ghost use Rattle.page_text.specs.Items.{about_tokens, items_tokens, list_tokens, row_tokens, why_tokens, words_tokens};
 ghost use Rattle.page_text.specs.Rows.{chosen_rows};
-ghost use Rattle.page_text.specs.Sheets.{Notes};
+ghost use Rattle.page_text.specs.Sheets.{NotesTokens};
 
 use super::rows::{Row, chosen_rows, rows_of};
 use super::sheet::{Mark, Sheet};
@@ -36,7 +36,7 @@ pub fn items_text(
 
 /// Adds the object of a list.
 fn add_items(alloc: Global, out: &mut Sheet, state: &State, page: u32, chosen: &[Row])
-    ensures { Notes (items_tokens state.now page chosen.now) out.old out.new }
+    ensures { NotesTokens (items_tokens state.now page chosen.now) out.old out.new }
 {
     out.add(&[
         Mark::Open,
@@ -51,7 +51,7 @@ fn add_items(alloc: Global, out: &mut Sheet, state: &State, page: u32, chosen: &
 
 /// Adds the list of the rows.
 fn add_list(alloc: Global, out: &mut Sheet, state: &State, rows: &[Row])
-    ensures { Notes (list_tokens state.now rows.now) out.old out.new }
+    ensures { NotesTokens (list_tokens state.now rows.now) out.old out.new }
 {
     out.add(&[Mark::Key("items"), Mark::OpenList]);
     add_rows(alloc, out, state, rows);
@@ -60,7 +60,7 @@ fn add_list(alloc: Global, out: &mut Sheet, state: &State, rows: &[Row])
 
 /// Adds an object for each row.
 fn add_rows(alloc: Global, out: &mut Sheet, state: &State, rows: &[Row])
-    ensures { Notes (flat_map (row_tokens state.now) rows.now) out.old out.new }
+    ensures { NotesTokens (flat_map (row_tokens state.now) rows.now) out.old out.new }
 {
     for row in rows {
         add_row(alloc, out, state, *row);
@@ -69,7 +69,7 @@ fn add_rows(alloc: Global, out: &mut Sheet, state: &State, rows: &[Row])
 
 /// Adds the object of a row.
 pub fn add_row(alloc: Global, out: &mut Sheet, state: &State, row: Row)
-    ensures { Notes (row_tokens state.now row) out.old out.new }
+    ensures { NotesTokens (row_tokens state.now row) out.old out.new }
 {
     match row {
         Row::Enters(item, place) => add_ready(out, state, item, place),
@@ -79,7 +79,7 @@ pub fn add_row(alloc: Global, out: &mut Sheet, state: &State, row: Row)
 
 /// Adds the object of an item that is ready.
 fn add_ready(out: &mut Sheet, state: &State, item: Item, place: usize)
-    ensures { Notes (row_tokens state.now (Row.Enters item place)) out.old out.new }
+    ensures { NotesTokens (row_tokens state.now (Row.Enters item place)) out.old out.new }
 {
     add_about(out, state, item);
     out.add(&[
@@ -93,7 +93,7 @@ fn add_ready(out: &mut Sheet, state: &State, item: Item, place: usize)
 
 /// Adds the object of an item that waits.
 fn add_left(alloc: Global, out: &mut Sheet, state: &State, left: Left)
-    ensures { Notes (row_tokens state.now (Row.Waits left)) out.old out.new }
+    ensures { NotesTokens (row_tokens state.now (Row.Waits left)) out.old out.new }
 {
     add_about(out, state, left.item);
     add_why(alloc, out, left.refusal);
@@ -101,7 +101,7 @@ fn add_left(alloc: Global, out: &mut Sheet, state: &State, left: Left)
 
 /// Ends the object of an item that waits, with its refusal.
 fn add_why(alloc: Global, out: &mut Sheet, refusal: Refusal)
-    ensures { Notes (why_tokens refusal) out.old out.new }
+    ensures { NotesTokens (why_tokens refusal) out.old out.new }
 {
     match refusal_words(alloc, refusal) {
         Ok(words) => add_words(out, words.as_str()),
@@ -111,7 +111,7 @@ fn add_why(alloc: Global, out: &mut Sheet, refusal: Refusal)
 
 /// Ends the object of an item that waits, with these words of its refusal.
 fn add_words(out: &mut Sheet, words: &str)
-    ensures { Notes (words_tokens words.now) out.old out.new }
+    ensures { NotesTokens (words_tokens words.now) out.old out.new }
 {
     out.add(&[
         Mark::Key("ready"),
@@ -124,7 +124,7 @@ fn add_words(out: &mut Sheet, words: &str)
 
 /// Begins the object of an item with what is said of each.
 fn add_about(out: &mut Sheet, state: &State, item: Item)
-    ensures { Notes (about_tokens state.now item) out.old out.new }
+    ensures { NotesTokens (about_tokens state.now item) out.old out.new }
 {
     out.add(&[
         Mark::Open,

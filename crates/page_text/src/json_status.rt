@@ -5,8 +5,9 @@ ghost use Rattle.json.specs.Print.{print};
 ghost use Rattle.json.specs.Token.{begin_object};
 ghost use Rattle.json_line.specs.Tokens.{numbered_tokens};
 ghost use Rattle.page_text.specs.Answer.{event_text};
-ghost use Rattle.page_text.specs.Sheets.{Notes};
-ghost use Rattle.page_text.specs.Site.{ages_tokens, counts_tokens, journal_tokens, peer_tokens, peers_tokens, site_tokens};
+ghost use Rattle.page_text.specs.Sheets.{NotesTokens};
+ghost use Rattle.page_text.specs.Site.{ages_tokens, counts_tokens, journal_tokens, peer_tokens, peers_tokens};
+ghost use Rattle.page_text.specs.Site.{site_tokens};
 ghost use Rattle.page_text.specs.Site.{work_tokens};
 
 use super::counts::{Counted, count_of};
@@ -35,7 +36,7 @@ pub fn status_text(
 
 /// Adds the object of a site's status.
 fn put_status(out: &mut Sheet, replica: &Replica, verdicts: &Verdicts, facts: &Facts)
-    ensures { Notes (site_tokens (length replica.now) verdicts.now facts.now) out.old out.new }
+    ensures { NotesTokens (site_tokens (length replica.now) verdicts.now facts.now) out.old out.new }
 {
     put_site(out, facts.site, facts.start);
     put_counts(out, replica, verdicts);
@@ -49,7 +50,8 @@ fn put_status(out: &mut Sheet, replica: &Replica, verdicts: &Verdicts, facts: &F
 
 /// Begins the object with the site and its start.
 fn put_site(out: &mut Sheet, site: u16, start: u32)
-    ensures { Notes (begin_object ∷ (numbered_tokens (codes "site") site ++ numbered_tokens (codes "start") start))
+    ensures { NotesTokens
+        (begin_object ∷ (numbered_tokens (codes "site") site ++ numbered_tokens (codes "start") start))
         out.old out.new }
 {
     out.add(&[
@@ -63,7 +65,7 @@ fn put_site(out: &mut Sheet, site: u16, start: u32)
 
 /// Adds how many operations, ready items, other items and open ones of these there are.
 fn put_counts(out: &mut Sheet, replica: &Replica, verdicts: &Verdicts)
-    ensures { Notes (counts_tokens (length replica.now) verdicts.now) out.old out.new }
+    ensures { NotesTokens (counts_tokens (length replica.now) verdicts.now) out.old out.new }
 {
     out.add(&[
         Mark::Key("operations"),
@@ -79,7 +81,7 @@ fn put_counts(out: &mut Sheet, replica: &Replica, verdicts: &Verdicts)
 
 /// Adds how old what is shown is, when something new came, and how many sessions are open.
 fn put_ages(out: &mut Sheet, facts: &Facts)
-    ensures { Notes (ages_tokens facts.now) out.old out.new }
+    ensures { NotesTokens (ages_tokens facts.now) out.old out.new }
 {
     out.add(&[
         Mark::Key("age_ms"),
@@ -93,7 +95,7 @@ fn put_ages(out: &mut Sheet, facts: &Facts)
 
 /// Adds the list of the peers.
 fn put_peers(out: &mut Sheet, peers: &[PeerFacts])
-    ensures { Notes (peers_tokens peers.now) out.old out.new }
+    ensures { NotesTokens (peers_tokens peers.now) out.old out.new }
 {
     out.add(&[Mark::Key("peers"), Mark::OpenList]);
     add_peers(out, peers);
@@ -102,7 +104,7 @@ fn put_peers(out: &mut Sheet, peers: &[PeerFacts])
 
 /// Adds an object for each peer.
 fn add_peers(out: &mut Sheet, peers: &[PeerFacts])
-    ensures { Notes (flat_map peer_tokens peers.now) out.old out.new }
+    ensures { NotesTokens (flat_map peer_tokens peers.now) out.old out.new }
 {
     for peer in peers {
         add_peer(out, peer);
@@ -111,7 +113,7 @@ fn add_peers(out: &mut Sheet, peers: &[PeerFacts])
 
 /// Adds the object of a peer.
 fn add_peer(out: &mut Sheet, peer: &PeerFacts)
-    ensures { Notes (peer_tokens peer.now) out.old out.new }
+    ensures { NotesTokens (peer_tokens peer.now) out.old out.new }
 {
     out.add(&[
         Mark::Open,
@@ -133,7 +135,7 @@ fn add_peer(out: &mut Sheet, peer: &PeerFacts)
 
 /// Adds what its threads do, and what went wrong since the start.
 fn put_work(out: &mut Sheet, facts: &Facts)
-    ensures { Notes (work_tokens facts.now) out.old out.new }
+    ensures { NotesTokens (work_tokens facts.now) out.old out.new }
 {
     out.add(&[
         Mark::Key("workers"),
@@ -149,7 +151,7 @@ fn put_work(out: &mut Sheet, facts: &Facts)
 
 /// Adds the object of the journal, or `null` where there is none.
 fn put_journal(out: &mut Sheet, journal: Option<JournalFacts>)
-    ensures { Notes (journal_tokens journal) out.old out.new }
+    ensures { NotesTokens (journal_tokens journal) out.old out.new }
 {
     match journal {
         Some(journal) => out.add(&[

@@ -3,7 +3,7 @@
 ghost use Rattle.std.specs.Prelude.{◌≡◌, ◌↔◌, Contains, IfOk, IsTrue, MatchOption, OnOk};
 ghost use Rattle.state_core.specs.declared.item.Item.{Item};
 ghost use Rattle.why_text.specs.Asked.{IsItemAsked};
-ghost use Rattle.page_text.specs.Reached.{AddsAll, AreReachedChanges, NamesFrom, set_seen};
+ghost use Rattle.page_text.specs.Reached.{AddsNumbers, AreReachedChanges, NamesFrom, set_seen};
 
 use super::needs::needs_of;
 use gate_rules::Gate;
@@ -52,7 +52,7 @@ fn add_names(
     item: Item,
     number: u32,
 ) -> Result<(), NoMemory>
-    ensures { OnOk result (AddsAll (NamesFrom gate.now state.now item number) changes.old.items changes.new.items) }
+    ensures { OnOk result (AddsNumbers (NamesFrom gate.now state.now item number) changes.old.items changes.new.items) }
 {
     let Some(from) = item_seen(state, item, number) else {
         return Ok(());
@@ -82,7 +82,7 @@ fn set_seen(item: Item, number: u32) -> Option<u32>
 
 /// Adds numbers, as far as they aren't there.
 fn add_new(numbers: &mut Vec<u32>, more: &[u32]) -> Result<(), NoMemory>
-    ensures { OnOk result (AddsAll (Contains more.now) numbers.old.items numbers.new.items) }
+    ensures { OnOk result (AddsNumbers (Contains more.now) numbers.old.items numbers.new.items) }
 {
     for number in more {
         add_one(numbers, *number)?;
@@ -92,7 +92,7 @@ fn add_new(numbers: &mut Vec<u32>, more: &[u32]) -> Result<(), NoMemory>
 
 /// Adds a number, if it isn't there.
 fn add_one(numbers: &mut Vec<u32>, number: u32) -> Result<(), NoMemory>
-    ensures { OnOk result (AddsAll (λ other. other ≡ number) numbers.old.items numbers.new.items) }
+    ensures { OnOk result (AddsNumbers (λ other. other ≡ number) numbers.old.items numbers.new.items) }
 {
     if is_among(numbers.as_slice(), number) {
         return Ok(());

@@ -3,7 +3,7 @@
 ghost use Rattle.std.specs.Prelude.{◌≡◌, ◌++◌, ◌∷◌, [], IfOk, OnOk, decimal, filter, map, take};
 ghost use Rattle.std.specs.Char.{to_ascii_lowercase};
 ghost use Rattle.page_text.specs.Rows.{chosen_rows, entering, has_reason, has_words, is_asked, is_by, is_for, is_found};
-ghost use Rattle.page_text.specs.Rows.{is_shown, row_item, rows_on, searched, waits_for};
+ghost use Rattle.page_text.specs.Rows.{is_shown, row_item, rows_on, words_searched, waits_for};
 ghost use Rattle.page_text.specs.Search.{contains};
 
 use super::search::Search;
@@ -60,7 +60,7 @@ pub fn chosen_rows(
 
 /// The search for the words that are searched for, if some are.
 fn search_of(alloc: Global, choice: &Choice) -> Result<Option<Search>, AllocError>
-    ensures { IfOk result (λ search. search ≡ searched choice.now.words) }
+    ensures { IfOk result (λ search. search ≡ words_searched choice.now.words) }
 {
     match &choice.words {
         Some(words) => Ok(Some(Search::new(alloc, words.as_bytes())?)),
@@ -98,7 +98,7 @@ fn add_ready(
     search: &mut Option<Search>,
     items: &[Item],
 ) -> Result<(), AllocError>
-    requires { search.old ≡ searched choice.now.words }
+    requires { search.old ≡ words_searched choice.now.words }
     ensures rows { OnOk result (rows.new.items
         ≡ rows.old.items ++ filter (is_asked state.now choice.now) (entering 1 items.now)) }
     ensures search { search.new ≡ search.old }
@@ -117,7 +117,7 @@ fn add_out(
     search: &mut Option<Search>,
     out: &[Left],
 ) -> Result<(), AllocError>
-    requires { search.old ≡ searched choice.now.words }
+    requires { search.old ≡ words_searched choice.now.words }
     ensures { OnOk result (rows.new.items
         ≡ rows.old.items ++ filter (is_asked state.now choice.now) (map Row.Waits out.now)) }
 {
@@ -135,7 +135,7 @@ fn add_if_asked(
     search: &mut Option<Search>,
     row: Row,
 ) -> Result<(), AllocError>
-    requires { search.old ≡ searched choice.now.words }
+    requires { search.old ≡ words_searched choice.now.words }
     ensures rows { OnOk result (rows.new.items
         ≡ rows.old.items ++ filter (is_asked state.now choice.now) (row ∷ [])) }
     ensures search { search.new ≡ search.old }
@@ -153,7 +153,7 @@ fn is_asked(
     search: &mut Option<Search>,
     row: Row,
 ) -> Result<bool, AllocError>
-    requires { search.old ≡ searched choice.now.words }
+    requires { search.old ≡ words_searched choice.now.words }
     ensures asked { IfOk result (λ asked. asked ≡ is_asked state.now choice.now row) }
     ensures search { search.new ≡ search.old }
 {

@@ -2,7 +2,7 @@
 
 ghost use Rattle.std.specs.Prelude.{◌≡◌, ◌∷◌, [], IfOk, None, OnOk, map};
 ghost use Rattle.json_line.specs.Tokens.{AddsTokens, number_if};
-ghost use Rattle.page_text.specs.Sheets.{IsBegun, IsWhole, Notes, mark_token};
+ghost use Rattle.page_text.specs.Sheets.{IsBegun, IsWholeSheet, NotesTokens, mark_token};
 
 use json::Writer;
 use lattice_core::NoMemory;
@@ -64,7 +64,7 @@ impl Sheet {
 
     /// Adds marks, one after the other.
     pub fn add(&mut self, marks: &[Mark<'_>])
-        ensures { Notes (map mark_token marks.now) self.old self.new }
+        ensures { NotesTokens (map mark_token marks.now) self.old self.new }
     {
         if !self.is_refused {
             self.is_refused = put_marks(&mut self.out, marks).is_err();
@@ -80,7 +80,7 @@ impl Sheet {
 
     /// The bytes of the text: all that was added. Refusal: memory was refused for some of it.
     pub fn end(self) -> Result<Vec<u8>, NoMemory>
-        ensures { IfOk result (λ text. IsWhole self text.items) }
+        ensures { IfOk result (λ text. IsWholeSheet self text.items) }
     {
         if self.is_refused {
             return Err(NoMemory);

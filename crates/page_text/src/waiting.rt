@@ -3,7 +3,7 @@
 ghost use Rattle.std.specs.Prelude.{◌≡◌, ◌++◌, ◌∷◌, [], IfOk, OnOk, filter, flat_map, map, string_bytes};
 ghost use Rattle.json.specs.Token.{string};
 ghost use Rattle.report_text.specs.Report.{item_text};
-ghost use Rattle.page_text.specs.Sheets.{Notes};
+ghost use Rattle.page_text.specs.Sheets.{NotesTokens};
 ghost use Rattle.page_text.specs.Waiting.{names_change, waiting_for, waiting_tokens};
 
 use super::links::add_item_link;
@@ -52,7 +52,7 @@ fn names(refusal: Refusal, change: u32) -> bool
 
 /// Adds the list of these items, as `101,2`.
 pub fn put_waiting(alloc: Global, out: &mut Sheet, items: &[Item])
-    ensures { Notes (waiting_tokens items.now) out.old out.new }
+    ensures { NotesTokens (waiting_tokens items.now) out.old out.new }
 {
     out.add(&[Mark::Key("waiting"), Mark::OpenList]);
     put_items(alloc, out, items);
@@ -61,7 +61,7 @@ pub fn put_waiting(alloc: Global, out: &mut Sheet, items: &[Item])
 
 /// Adds items.
 fn put_items(alloc: Global, out: &mut Sheet, items: &[Item])
-    ensures { Notes (flat_map (λ item. string (item_text item) ∷ []) items.now) out.old out.new }
+    ensures { NotesTokens (flat_map (λ item. string (item_text item) ∷ []) items.now) out.old out.new }
 {
     for item in items {
         put_item(alloc, out, *item);
@@ -70,7 +70,7 @@ fn put_items(alloc: Global, out: &mut Sheet, items: &[Item])
 
 /// Adds an item.
 fn put_item(alloc: Global, out: &mut Sheet, item: Item)
-    ensures { Notes (string (item_text item) ∷ []) out.old out.new }
+    ensures { NotesTokens (string (item_text item) ∷ []) out.old out.new }
 {
     match item_text(alloc, item) {
         Ok(text) => put_text(out, text.as_str()),
@@ -80,7 +80,7 @@ fn put_item(alloc: Global, out: &mut Sheet, item: Item)
 
 /// Adds a text.
 fn put_text(out: &mut Sheet, text: &str)
-    ensures { Notes (string text.now ∷ []) out.old out.new }
+    ensures { NotesTokens (string text.now ∷ []) out.old out.new }
 {
     out.add(&[Mark::Text(text)]);
 }

@@ -2,7 +2,7 @@
 
 ghost use Rattle.std.specs.Prelude.{◌≡◌, ◌-◌, ◌++◌, map, option_map, slice_get, string_bytes};
 ghost use Rattle.markup_text.specs.Growing.{Adds};
-ghost use Rattle.page_text.specs.Wanted.{any_html, approval_html, current_words, label_html, labels_html, open_words};
+ghost use Rattle.page_text.specs.Wanted.{any_html, approval_html, current_phrase, label_html, labels_html, open_phrase};
 ghost use Rattle.page_text.specs.Wanted.{pattern_html, status_html, statuses_html, values_html, voter_html};
 ghost use Rattle.page_text.specs.Wanted.{wanted_html};
 
@@ -24,7 +24,7 @@ pub fn add_wanted(page: &mut Markup, gate: &Gate, condition: Condition)
 
 /// What `open` asks.
 fn open_words(asked: Option<bool>) -> &'static str
-    ensures { result.now ≡ open_words asked }
+    ensures { result.now ≡ open_phrase asked }
 {
     match asked {
         Some(false) => "not open",
@@ -34,7 +34,7 @@ fn open_words(asked: Option<bool>) -> &'static str
 
 /// What `current-patchset` asks.
 fn current_words(asked: Option<bool>) -> &'static str
-    ensures { result.now ≡ current_words asked }
+    ensures { result.now ≡ current_phrase asked }
 {
     match asked {
         Some(false) => "not the current patch set",

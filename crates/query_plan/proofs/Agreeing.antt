@@ -5,10 +5,11 @@ use Rattle.std.specs.Prelude.{◌==◌, ◌&&◌, ◌||◌, filter, nat_le}
 use Rattle.std.specs.Ordering.{nat_cmp}
 use Rattle.std.specs.BTreeSet.{BTreeSet, contains}
 use Rattle.std.proofs.lemmas.Bool.{eqb-true, false≢true}
-use Rattle.query_plan.specs.Ending.{AreRefused, ChangesFail, QueryFails, given_up, marked, stays}
+use Rattle.query_plan.specs.Ending.{AreChangesRefused, ChangesFail, QueryFails, given_up, marked, stays}
 use Rattle.query_plan.specs.Keeping.{Agrees}
 use Rattle.query_plan.specs.Marks.{as_listed, as_repeated, as_unlisted}
-use Rattle.query_plan.specs.Plan.{Asks, IsNew, begins_to_wait, greatest, is_on, marks_after, marks_at}
+use Rattle.query_plan.specs.Plan.{IsAskedFor, IsNewPlan, begins_to_wait, greatest_change, is_on_list, marks_after}
+use Rattle.query_plan.specs.Plan.{marks_at}
 use Rattle.query_plan.specs.Stepping.{LosesQuery, StepsSo}
 use Rattle.query_plan.specs.declared.line.Word.{Word}
 use Rattle.query_plan.specs.declared.line.Word.TheVariants.{Ask, Need, All, Next, Listed, Whole, Refused, Late, Lost}
@@ -57,27 +58,29 @@ and_some false = refl
 
 -- ---- lists
 
-on_appended : (changes : List ℕ) (last change : ℕ) → is_on (changes ++ last ∷ []) change ≡ (is_on changes change || (last == change))
+on_appended : (changes : List ℕ) (last change : ℕ)
+    → is_on_list (changes ++ last ∷ []) change ≡ (is_on_list changes change || (last == change))
 on_appended [] last change = or_none (last == change)
 on_appended (x ∷ changes) last change =
-    elim (x == change) as (λ b. (b || is_on (changes ++ last ∷ []) change) ≡ ((b || is_on changes change) || (last == change)))
+    elim (x == change) as
+    (λ b. (b || is_on_list (changes ++ last ∷ []) change) ≡ ((b || is_on_list changes change) || (last == change)))
     [ true ↦ refl | false ↦ on_appended changes last change ]
 
-on_filter_is : (test : ℕ → Bool) (changes : List ℕ) (change : ℕ) (on passes : Bool) → is_on changes change ≡ on
-    → test change ≡ passes → is_on (filter test changes) change ≡ (on && passes)
+on_filter_is : (test : ℕ → Bool) (changes : List ℕ) (change : ℕ) (on passes : Bool) → is_on_list changes change ≡ on
+    → test change ≡ passes → is_on_list (filter test changes) change ≡ (on && passes)
 on_filter_is test changes change true true on passes = on_filter test changes change passes on
 on_filter_is test changes change true false on passes =
-    both (is_on (filter test changes) change) false
+    both (is_on_list (filter test changes) change) false
     (λ e. absurd (false≢true (sym passes ∙ (on_filtered test changes change e).1))) (λ e. absurd (false≢true e))
 on_filter_is test changes change false passes on is =
-    both (is_on (filter test changes) change) false
+    both (is_on_list (filter test changes) change) false
     (λ e. absurd (false≢true (sym on ∙ (on_filtered test changes change e).0))) (λ e. absurd (false≢true e))
 
 -- ---- steps that leave both
 
 same_both : (old new : Plan) → new.waiting ≡ old.waiting → new.marks ≡ old.marks → Agrees old → Agrees new
 same_both old new waiting marks agrees = λ change.
-    ap (λ m. (marks_at m change).waits) marks ∙ agrees change ∙ sym (ap (λ w. is_on w.items change) waiting)
+    ap (λ m. (marks_at m change).waits) marks ∙ agrees change ∙ sym (ap (λ w. is_on_list w.items change) waiting)
 
 -- ---- what feeds ask for
 
@@ -87,33 +90,37 @@ unchanged true true before = refl
 unchanged true false before = refl
 unchanged false event before = refl
 
-asked_agrees : (begins fits event : Bool) (change other : ℕ) (changes others : List ℕ) (before after : Marks) (is : Bool)
+asked_agrees : (begins fits event : Bool) (change other : ℕ) (changes others : List ℕ) (before after : Marks)
+    (is : Bool)
     → (other == change) ≡ is → (begins ≡ true → fits ≡ true)
     → others ≡ (if begins then changes ++ change ∷ [] else changes)
     → after ≡ (if fits && is then marks_after begins event before else before)
-    → before.waits ≡ is_on changes other → after.waits ≡ is_on others other
+    → before.waits ≡ is_on_list changes other → after.waits ≡ is_on_list others other
 asked_agrees true false event change other changes others before after is e fits grown kept agrees =
     absurd (false≢true (fits refl))
 asked_agrees true true event change other changes others before after true e fits grown kept agrees =
     ap (λ m. m.waits) kept
-    ∙ sym (ap (λ l. is_on l other) grown ∙ on_appended changes change other
-    ∙ ap (λ (b : Bool). is_on changes other || b) (turned other change e) ∙ or_some (is_on changes other))
+    ∙ sym (ap (λ l. is_on_list l other) grown ∙ on_appended changes change other
+    ∙ ap (λ (b : Bool). is_on_list changes other || b) (turned other change e) ∙ or_some (is_on_list changes other))
 asked_agrees true true event change other changes others before after false e fits grown kept agrees =
     ap (λ m. m.waits) kept ∙ agrees
-    ∙ sym (ap (λ l. is_on l other) grown ∙ on_appended changes change other
-    ∙ ap (λ (b : Bool). is_on changes other || b) (eq_turned change other ∙ e) ∙ or_none (is_on changes other))
+    ∙ sym (ap (λ l. is_on_list l other) grown ∙ on_appended changes change other
+    ∙ ap (λ (b : Bool). is_on_list changes other || b) (eq_turned change other ∙ e)
+    ∙ or_none (is_on_list changes other))
 asked_agrees false fits event change other changes others before after is e fits' grown kept agrees =
-    ap (λ m. m.waits) kept ∙ unchanged (fits && is) event before ∙ agrees ∙ sym (ap (λ l. is_on l other) grown)
+    ap (λ m. m.waits) kept ∙ unchanged (fits && is) event before ∙ agrees ∙ sym (ap (λ l. is_on_list l other) grown)
 
 first_of : (p q : Bool) → (p && q) ≡ true → p ≡ true
 first_of true q e = refl
 first_of false q e = e
 
-asks_agree : (now change : ℕ) (event : Bool) (old new : Plan) → Asks now change event old new → Agrees old → Agrees new
+asks_agree : (now change : ℕ) (event : Bool) (old new : Plan) → IsAskedFor now change event old new → Agrees old
+    → Agrees new
 asks_agree now change event old new asks agrees = λ other.
-    asked_agrees (begins_to_wait now change event old) (nat_le change greatest) event change other old.waiting.items
+    asked_agrees (begins_to_wait now change event old)
+    (nat_le change greatest_change) event change other old.waiting.items
     new.waiting.items (marks_at old.marks other) (marks_at new.marks other) (other == change) refl
-    (first_of (nat_le change greatest) _) asks.waits (asks.kept other) (agrees other)
+    (first_of (nat_le change greatest_change) _) asks.waits (asks.kept other) (agrees other)
 
 -- ---- how queries end
 
@@ -123,7 +130,8 @@ lost_agrees Nothing now old new told fails agrees = same_both old new fails.same
 lost_agrees OfAll now old new told fails agrees = same_both old new fails.same.0 fails.same.1 agrees
 lost_agrees Changes now old new told fails agrees = same_both old new fails.same.0 fails.same.1 agrees
 
-losing_agrees : (query : Query) (now : ℕ) (old new : Plan) (notice : Option Notice) → LosesQuery query now old notice new
+losing_agrees : (query : Query) (now : ℕ) (old new : Plan) (notice : Option Notice)
+    → LosesQuery query now old notice new
     → Agrees old → Agrees new
 losing_agrees Nothing now old new notice loses agrees =
     same_both old new (ap (λ p. p.waiting) loses.1) (ap (λ p. p.marks) loses.1) agrees
@@ -138,37 +146,42 @@ gives_up_waits false now round marks = refl
 
 given_agrees : (x other : ℕ) (is : Bool) (changes others : List ℕ) (gone before after : Marks) → (other == x) ≡ is
     → gone.waits ≡ false → others ≡ filter (λ n. not (n == x)) changes
-    → after ≡ (if is then gone else before) → before.waits ≡ is_on changes other → after.waits ≡ is_on others other
+    → after ≡ (if is then gone else before) → before.waits ≡ is_on_list changes other
+    → after.waits ≡ is_on_list others other
 given_agrees x other true changes others gone before after e none rest kept agrees =
     ap (λ m. m.waits) kept ∙ none
-    ∙ sym (ap (λ l. is_on l other) rest
-    ∙ on_filter_is (λ n. not (n == x)) changes other (is_on changes other) false refl (ap not e) ∙ and_none (is_on changes other))
+    ∙ sym (ap (λ l. is_on_list l other) rest
+    ∙ on_filter_is (λ n. not (n == x)) changes other (is_on_list changes other) false refl (ap not e)
+    ∙ and_none (is_on_list changes other))
 given_agrees x other false changes others gone before after e none rest kept agrees =
     ap (λ m. m.waits) kept ∙ agrees
-    ∙ sym (ap (λ l. is_on l other) rest
-    ∙ on_filter_is (λ n. not (n == x)) changes other (is_on changes other) true refl (ap not e) ∙ and_some (is_on changes other))
+    ∙ sym (ap (λ l. is_on_list l other) rest
+    ∙ on_filter_is (λ n. not (n == x)) changes other (is_on_list changes other) true refl (ap not e)
+    ∙ and_some (is_on_list changes other))
 
 -- a repetition leaves whether a change waits
 repeated_waits : (is : Bool) (x other : ℕ) (old : Plan) → (other == x) ≡ is → Agrees old
-    → (if is then as_repeated (marks_at old.marks x) else marks_at old.marks other).waits ≡ is_on old.waiting.items other
+    → (if is then as_repeated (marks_at old.marks x) else marks_at old.marks other).waits
+    ≡ is_on_list old.waiting.items other
 repeated_waits true x other old e agrees =
-    agrees x ∙ ap (λ (n : ℕ). is_on old.waiting.items n) (sym (eqb-true other x e))
+    agrees x ∙ ap (λ (n : ℕ). is_on_list old.waiting.items n) (sym (eqb-true other x e))
 repeated_waits false x other old e agrees = agrees other
 
 refused_agrees : (named : List ℕ) (late : Bool) (now : ℕ) (old new : Plan) (told : Notice)
-    → AreRefused now late named old told new → Agrees old → Agrees new
+    → AreChangesRefused now late named old told new → Agrees old → Agrees new
 refused_agrees [] late now old new told refused agrees = same_both old new refused.same.0 refused.same.1 agrees
 refused_agrees (x ∷ []) late now old new told (inl repeated) agrees = λ other.
     ap (λ m. m.waits) (repeated.kept other)
     ∙ repeated_waits (other == x) x other old refl agrees
-    ∙ sym (ap (λ w. is_on w.items other) repeated.waits)
+    ∙ sym (ap (λ w. is_on_list w.items other) repeated.waits)
 refused_agrees (x ∷ []) late now old new told (inr given) agrees = λ other.
     given_agrees x other (other == x) old.waiting.items new.waiting.items
     (given_up (late && old.schedule.is_well) now old.schedule.round (marks_at old.marks x)) (marks_at old.marks other)
     (marks_at new.marks other) refl
     (gives_up_waits (late && old.schedule.is_well) now old.schedule.round (marks_at old.marks x)) given.waits
     (given.kept other) (agrees other)
-refused_agrees (x ∷ y ∷ named) late now old new told refused agrees = same_both old new refused.same.0 refused.same.1 agrees
+refused_agrees (x ∷ y ∷ named) late now old new told refused agrees =
+    same_both old new refused.same.0 refused.same.1 agrees
 
 failed_agrees : (query : Query) (failure : Failure) (now : ℕ) (old new : Plan) (told : Notice)
     → QueryFails query now failure old told new
@@ -178,36 +191,36 @@ failed_agrees OfAll failure now old new told fails keeps agrees = same_both old 
 failed_agrees Changes failure now old new told fails keeps agrees = keeps fails agrees
 
 marked_waits : (all : Bool) (until : ℕ) (named : List ℕ) (listed : BTreeSet ℕ) (change : ℕ) (before : Marks)
-    (is_named is_listed : Bool) → is_on named change ≡ is_named → contains nat_cmp listed change ≡ is_listed
+    (is_named is_listed : Bool) → is_on_list named change ≡ is_named → contains nat_cmp listed change ≡ is_listed
     → (marked all until named listed change before).waits ≡ (before.waits && (not is_named && not is_listed))
 marked_waits all until named listed change before is_named true n l =
-    ap (λ (b : Bool). (if b then as_listed all before else (if is_on named change then as_unlisted until before else before)).waits) l
+    ap (λ (b : Bool). (if b then as_listed all before else (if is_on_list named change then as_unlisted until before else before)).waits) l
     ∙ sym (ap (λ (b : Bool). before.waits && b) (and_none (not is_named)) ∙ and_none before.waits)
 marked_waits all until named listed change before true false n l =
-    ap (λ (b : Bool). (if b then as_listed all before else (if is_on named change then as_unlisted until before else before)).waits) l
+    ap (λ (b : Bool). (if b then as_listed all before else (if is_on_list named change then as_unlisted until before else before)).waits) l
     ∙ ap (λ (b : Bool). (if b then as_unlisted until before else before).waits) n ∙ sym (and_none before.waits)
 marked_waits all until named listed change before false false n l =
-    ap (λ (b : Bool). (if b then as_listed all before else (if is_on named change then as_unlisted until before else before)).waits) l
+    ap (λ (b : Bool). (if b then as_listed all before else (if is_on_list named change then as_unlisted until before else before)).waits) l
     ∙ ap (λ (b : Bool). (if b then as_unlisted until before else before).waits) n ∙ sym (and_some before.waits)
 
 whole_agrees : (all : Bool) (until : ℕ) (named : List ℕ) (listed : BTreeSet ℕ) (change : ℕ) (changes others : List ℕ)
-    (before after : Marks) (is_named is_listed : Bool) → is_on named change ≡ is_named
+    (before after : Marks) (is_named is_listed : Bool) → is_on_list named change ≡ is_named
     → contains nat_cmp listed change ≡ is_listed → others ≡ filter (stays named listed) changes
-    → after ≡ marked all until named listed change before → before.waits ≡ is_on changes change
-    → after.waits ≡ is_on others change
+    → after ≡ marked all until named listed change before → before.waits ≡ is_on_list changes change
+    → after.waits ≡ is_on_list others change
 whole_agrees all until named listed change changes others before after is_named is_listed n l rest kept agrees =
     ap (λ m. m.waits) kept
     ∙ marked_waits all until named listed change before is_named is_listed n l
     ∙ ap (λ (b : Bool). b && (not is_named && not is_listed)) agrees
-    ∙ sym (ap (λ l'. is_on l' change) rest
-    ∙ on_filter_is (stays named listed) changes change (is_on changes change) (not is_named && not is_listed) refl
+    ∙ sym (ap (λ l'. is_on_list l' change) rest
+    ∙ on_filter_is (stays named listed) changes change (is_on_list changes change) (not is_named && not is_listed) refl
     (ap (λ (b : Bool). not b && not (contains nat_cmp listed change)) n ∙ ap (λ (b : Bool). not is_named && not b) l))
 
 -- ---- each line
 
-pub agree_new : (settings : Settings) (plan : Plan) → IsNew settings plan → Agrees plan
+pub agree_new : (settings : Settings) (plan : Plan) → IsNewPlan settings plan → Agrees plan
 agree_new settings plan new = λ change.
-    ap (λ m. m.waits) (new.none_kept change) ∙ sym (ap (λ l. is_on l change) new.none_waits)
+    ap (λ m. m.waits) (new.none_kept change) ∙ sym (ap (λ l. is_on_list l change) new.none_waits)
 
 pub agree_on : (word : Word) (now : ℕ) (old new : Plan) (answer : Answer) → StepsSo word now old answer new
     → Agrees old → Agrees new

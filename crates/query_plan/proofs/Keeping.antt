@@ -1,13 +1,14 @@
 -- What waits goes on waiting.
-use Rattle.std.proofs.Common.{◌≡◌, ◌∙◌, ◌⊎◌, ℕ, Bool, true, false, not, cond, List, [], ◌∷◌, ◌++◌, Option, if◌then◌else◌}
+use Rattle.std.proofs.Common.{◌≡◌, ◌∙◌, ◌⊎◌, ℕ, Bool, true, false, not, cond, List, [], ◌∷◌, ◌++◌, Option}
+use Rattle.std.proofs.Common.{if◌then◌else◌}
 use Rattle.std.proofs.Common.{inl, inr, refl, sym, ap}
 use Rattle.std.specs.Prelude.{◌==◌, ◌&&◌, ◌||◌, filter}
 use Rattle.std.specs.Ordering.{nat_cmp}
 use Rattle.std.specs.BTreeSet.{BTreeSet, contains}
 use Rattle.std.proofs.lemmas.Bool.{eqb-true, false≢true}
-use Rattle.query_plan.specs.Ending.{AreRefused, ChangesFail, QueryFails, stays}
-use Rattle.query_plan.specs.Keeping.{Waits, WaitsOn}
-use Rattle.query_plan.specs.Plan.{is_on}
+use Rattle.query_plan.specs.Ending.{AreChangesRefused, ChangesFail, QueryFails, stays}
+use Rattle.query_plan.specs.Keeping.{IsWaiting, WaitsOn}
+use Rattle.query_plan.specs.Plan.{is_on_list}
 use Rattle.query_plan.specs.Stepping.{LosesQuery}
 use Rattle.query_plan.specs.declared.line.Word.TheVariants.{Ask, Need, All, Next, Listed, Whole, Refused, Late, Lost}
 use Rattle.query_plan.specs.declared.notice.Notice.{Notice}
@@ -24,37 +25,42 @@ or_true true q e = refl
 or_true false q e = e
 
 -- a list that is longer has what the shorter one has
-on_longer : (changes more : List ℕ) (change : ℕ) → is_on changes change ≡ true → is_on (changes ++ more) change ≡ true
+on_longer : (changes more : List ℕ) (change : ℕ) → is_on_list changes change ≡ true
+    → is_on_list (changes ++ more) change ≡ true
 on_longer [] more change on = absurd (false≢true on)
 on_longer (x ∷ changes) more change on =
-    elim (x == change) as (λ b. (b || is_on changes change) ≡ true → (b || is_on (changes ++ more) change) ≡ true)
+    elim (x == change) as
+    (λ b. (b || is_on_list changes change) ≡ true → (b || is_on_list (changes ++ more) change) ≡ true)
     [ true ↦ λ e. refl | false ↦ λ e. on_longer changes more change e ] on
 
 filter_step : (test : ℕ → Bool) (x : ℕ) (changes : List ℕ) (change : ℕ) → test change ≡ true
-    → (is_on changes change ≡ true → is_on (filter test changes) change ≡ true)
-    → (here : Bool) → (x == change) ≡ here → (first : Bool) → test x ≡ first → (here || is_on changes change) ≡ true
-    → is_on (cond first (x ∷ filter test changes) (filter test changes)) change ≡ true
+    → (is_on_list changes change ≡ true → is_on_list (filter test changes) change ≡ true)
+    → (here : Bool) → (x == change) ≡ here → (first : Bool) → test x ≡ first
+    → (here || is_on_list changes change) ≡ true
+    → is_on_list (cond first (x ∷ filter test changes) (filter test changes)) change ≡ true
 filter_step test x changes change passes more true is true first on =
-    ap (λ (b : Bool). b || is_on (filter test changes) change) is
+    ap (λ (b : Bool). b || is_on_list (filter test changes) change) is
 filter_step test x changes change passes more true is false first on =
     absurd (false≢true (sym first ∙ ap test (eqb-true x change is) ∙ passes))
 filter_step test x changes change passes more false is true first on = or_true (x == change) _ (more on)
 filter_step test x changes change passes more false is false first on = more on
 
 -- what passes a test stays on a list
-pub on_filter : (test : ℕ → Bool) (changes : List ℕ) (change : ℕ) → test change ≡ true → is_on changes change ≡ true
-    → is_on (filter test changes) change ≡ true
+pub on_filter : (test : ℕ → Bool) (changes : List ℕ) (change : ℕ) → test change ≡ true
+    → is_on_list changes change ≡ true
+    → is_on_list (filter test changes) change ≡ true
 on_filter test [] change passes on = absurd (false≢true on)
 on_filter test (x ∷ changes) change passes on =
     filter_step test x changes change passes (on_filter test changes change passes) (x == change) refl (test x) refl
-    (ap (λ (b : Bool). b || is_on changes change) (sym refl) ∙ on)
+    (ap (λ (b : Bool). b || is_on_list changes change) (sym refl) ∙ on)
 
-on_same : (changes others : List ℕ) (change : ℕ) → others ≡ changes → is_on changes change ≡ true
-    → is_on others change ≡ true
-on_same changes others change same on = ap (λ (l : List ℕ). is_on l change) same ∙ on
+on_same : (changes others : List ℕ) (change : ℕ) → others ≡ changes → is_on_list changes change ≡ true
+    → is_on_list others change ≡ true
+on_same changes others change same on = ap (λ (l : List ℕ). is_on_list l change) same ∙ on
 
 on_grown : (begins : Bool) (changes others more : List ℕ) (change : ℕ)
-    → others ≡ (if begins then changes ++ more else changes) → is_on changes change ≡ true → is_on others change ≡ true
+    → others ≡ (if begins then changes ++ more else changes) → is_on_list changes change ≡ true
+    → is_on_list others change ≡ true
 on_grown true changes others more change grown on =
     on_same (changes ++ more) others change grown (on_longer changes more change on)
 on_grown false changes others more change grown on = on_same changes others change grown on
@@ -74,15 +80,16 @@ losing_keeps OfAll now old new notice loses = lost_keeps old.schedule.query now 
 losing_keeps Changes now old new notice loses = lost_keeps old.schedule.query now old new loses.0 loses.2.0
 
 alone : (x change : ℕ) (changes others : List ℕ) (is : Bool) → (change == x) ≡ is
-    → others ≡ filter (λ other. not (other == x)) changes → is_on changes change ≡ true
-    → (x ∷ [] ≡ change ∷ []) ⊎ (is_on others change ≡ true)
+    → others ≡ filter (λ other. not (other == x)) changes → is_on_list changes change ≡ true
+    → (x ∷ [] ≡ change ∷ []) ⊎ (is_on_list others change ≡ true)
 alone x change changes others true is rest on = inl (ap (λ (n : ℕ). n ∷ []) (sym (eqb-true change x is)))
 alone x change changes others false is rest on =
     inr (on_same (filter (λ other. not (other == x)) changes) others change rest
     (on_filter (λ other. not (other == x)) changes change (ap not is) on))
 
 refused_keeps : (named : List ℕ) (late : Bool) (now change : ℕ) (old new : Plan) (told : Notice)
-    → AreRefused now late named old told new → Waits old change → (named ≡ change ∷ []) ⊎ Waits new change
+    → AreChangesRefused now late named old told new → IsWaiting old change
+    → (named ≡ change ∷ []) ⊎ IsWaiting new change
 refused_keeps [] late now change old new told refused on =
     inr (on_same old.waiting.items new.waiting.items change (ap (λ w. w.items) refused.same.0) on)
 refused_keeps (x ∷ []) late now change old new told (inl repeated) on =
@@ -94,8 +101,8 @@ refused_keeps (x ∷ y ∷ named) late now change old new told refused on =
 
 all_paused : (query : Query) (late : Failure) (now change : ℕ) (old new : Plan) (told : Notice)
     → QueryFails query now late old told new
-    → (ChangesFail now late old.named.items old told new → Waits old change → (old.named.items ≡ change ∷ []) ⊎ Waits new change)
-    → Waits old change → (old.named.items ≡ change ∷ []) ⊎ Waits new change
+    → (ChangesFail now late old.named.items old told new → IsWaiting old change → (old.named.items ≡ change ∷ []) ⊎ IsWaiting new change)
+    → IsWaiting old change → (old.named.items ≡ change ∷ []) ⊎ IsWaiting new change
 all_paused Nothing late now change old new told fails keeps on = keeps fails on
 all_paused OfAll late now change old new told fails keeps on =
     inr (on_same old.waiting.items new.waiting.items change (ap (λ w. w.items) fails.same.0) on)
@@ -104,9 +111,9 @@ all_paused Changes late now change old new told fails keeps on = keeps fails on
 -- ---- a whole answer
 
 whole_keeps : (named : List ℕ) (listed : BTreeSet ℕ) (changes others : List ℕ) (change : ℕ) (is_named is_listed : Bool)
-    → is_on named change ≡ is_named → contains nat_cmp listed change ≡ is_listed
-    → others ≡ filter (stays named listed) changes → is_on changes change ≡ true
-    → ((is_on named change ≡ true) ⊎ (contains nat_cmp listed change ≡ true)) ⊎ (is_on others change ≡ true)
+    → is_on_list named change ≡ is_named → contains nat_cmp listed change ≡ is_listed
+    → others ≡ filter (stays named listed) changes → is_on_list changes change ≡ true
+    → ((is_on_list named change ≡ true) ⊎ (contains nat_cmp listed change ≡ true)) ⊎ (is_on_list others change ≡ true)
 whole_keeps named listed changes others change true is_listed n l rest on = inl (inl n)
 whole_keeps named listed changes others change false true n l rest on = inl (inr l)
 whole_keeps named listed changes others change false false n l rest on =

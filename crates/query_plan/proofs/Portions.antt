@@ -9,7 +9,7 @@ use Rattle.std.proofs.lemmas.Bool.{eqb-true, false≢true}
 use Rattle.std.proofs.lemmas.Grind.{common_steps}
 use Rattle.query_plan.specs.Giving.{first_class, known_waiting, picked}
 use Rattle.query_plan.specs.Keeping.{NamesPortions}
-use Rattle.query_plan.specs.Plan.{is_empty, is_known_by, is_on}
+use Rattle.query_plan.specs.Plan.{is_empty, is_known_by, is_on_list}
 use Rattle.query_plan.specs.declared.plan.Plan.{Plan}
 use Rattle.query_plan.proofs.Keeping.{on_filter}
 
@@ -26,49 +26,50 @@ or_second : (p q : Bool) → q ≡ true → (p || q) ≡ true
 or_second true q e = refl
 or_second false q e = e
 
-on_either : (changes more : List ℕ) (change : ℕ) → is_on (changes ++ more) change ≡ true
-    → (is_on changes change ≡ true) ⊎ (is_on more change ≡ true)
+on_either : (changes more : List ℕ) (change : ℕ) → is_on_list (changes ++ more) change ≡ true
+    → (is_on_list changes change ≡ true) ⊎ (is_on_list more change ≡ true)
 on_either [] more change on = inr on
 on_either (x ∷ changes) more change on =
-    elim (or_cases (x == change) (is_on (changes ++ more) change) on) [
-      | inl here ↦ inl (or_first (x == change) (is_on changes change) here)
+    elim (or_cases (x == change) (is_on_list (changes ++ more) change) on) [
+      | inl here ↦ inl (or_first (x == change) (is_on_list changes change) here)
       | inr rest ↦ elim (on_either changes more change rest) [
-        | inl first ↦ inl (or_second (x == change) (is_on changes change) first)
+        | inl first ↦ inl (or_second (x == change) (is_on_list changes change) first)
         | inr second ↦ inr second
       ]
     ]
 
-on_take : (count : ℕ) (changes : List ℕ) (change : ℕ) → is_on (take count changes) change ≡ true
-    → is_on changes change ≡ true
+on_take : (count : ℕ) (changes : List ℕ) (change : ℕ) → is_on_list (take count changes) change ≡ true
+    → is_on_list changes change ≡ true
 on_take zero changes change on = absurd (false≢true on)
 on_take (suc count) [] change on = on
 on_take (suc count) (x ∷ changes) change on =
-    elim (or_cases (x == change) (is_on (take count changes) change) on) [
-      | inl here ↦ or_first (x == change) (is_on changes change) here
-      | inr rest ↦ or_second (x == change) (is_on changes change) (on_take count changes change rest)
+    elim (or_cases (x == change) (is_on_list (take count changes) change) on) [
+      | inl here ↦ or_first (x == change) (is_on_list changes change) here
+      | inr rest ↦ or_second (x == change) (is_on_list changes change) (on_take count changes change rest)
     ]
 
-on_drop : (count : ℕ) (changes : List ℕ) (change : ℕ) → is_on (drop count changes) change ≡ true
-    → is_on changes change ≡ true
+on_drop : (count : ℕ) (changes : List ℕ) (change : ℕ) → is_on_list (drop count changes) change ≡ true
+    → is_on_list changes change ≡ true
 on_drop zero changes change on = on
 on_drop (suc count) [] change on = on
 on_drop (suc count) (x ∷ changes) change on =
-    or_second (x == change) (is_on changes change) (on_drop count changes change on)
+    or_second (x == change) (is_on_list changes change) (on_drop count changes change on)
 
 filtered_step : (test : ℕ → Bool) (x : ℕ) (changes : List ℕ) (change : ℕ)
-    → (is_on (filter test changes) change ≡ true → (is_on changes change ≡ true) × (test change ≡ true))
-    → (first : Bool) → test x ≡ first → is_on (cond first (x ∷ filter test changes) (filter test changes)) change ≡ true
-    → (((x == change) || is_on changes change) ≡ true) × (test change ≡ true)
+    → (is_on_list (filter test changes) change ≡ true → (is_on_list changes change ≡ true) × (test change ≡ true))
+    → (first : Bool) → test x ≡ first
+    → is_on_list (cond first (x ∷ filter test changes) (filter test changes)) change ≡ true
+    → (((x == change) || is_on_list changes change) ≡ true) × (test change ≡ true)
 filtered_step test x changes change more true first on =
-    elim (or_cases (x == change) (is_on (filter test changes) change) on) [
-      | inl here ↦ (or_first (x == change) (is_on changes change) here, ap test (sym (eqb-true x change here)) ∙ first)
-      | inr rest ↦ (or_second (x == change) (is_on changes change) (more rest).0, (more rest).1)
+    elim (or_cases (x == change) (is_on_list (filter test changes) change) on) [
+      | inl here ↦ (or_first (x == change) (is_on_list changes change) here, ap test (sym (eqb-true x change here)) ∙ first)
+      | inr rest ↦ (or_second (x == change) (is_on_list changes change) (more rest).0, (more rest).1)
     ]
 filtered_step test x changes change more false first on =
-    (or_second (x == change) (is_on changes change) (more on).0, (more on).1)
+    (or_second (x == change) (is_on_list changes change) (more on).0, (more on).1)
 
-pub on_filtered : (test : ℕ → Bool) (changes : List ℕ) (change : ℕ) → is_on (filter test changes) change ≡ true
-    → (is_on changes change ≡ true) × (test change ≡ true)
+pub on_filtered : (test : ℕ → Bool) (changes : List ℕ) (change : ℕ) → is_on_list (filter test changes) change ≡ true
+    → (is_on_list changes change ≡ true) × (test change ≡ true)
 on_filtered test [] change on = absurd (false≢true on)
 on_filtered test (x ∷ changes) change on =
     filtered_step test x changes change (on_filtered test changes change) (test x) refl on
@@ -76,14 +77,15 @@ on_filtered test (x ∷ changes) change on =
 -- ---- what is picked
 
 on_picked_by : (fits : Bool) (changes front back : List ℕ) (change : ℕ)
-    → (is_on front change ≡ true → is_on changes change ≡ true) → (is_on back change ≡ true → is_on changes change ≡ true)
-    → is_on (if fits then changes else front ++ back) change ≡ true → is_on changes change ≡ true
+    → (is_on_list front change ≡ true → is_on_list changes change ≡ true)
+    → (is_on_list back change ≡ true → is_on_list changes change ≡ true)
+    → is_on_list (if fits then changes else front ++ back) change ≡ true → is_on_list changes change ≡ true
 on_picked_by true changes front back change first last on = on
 on_picked_by false changes front back change first last on =
     elim (on_either front back change on) [ inl here ↦ first here | inr here ↦ last here ]
 
-on_picked : (changes : List ℕ) (most last : ℕ) (change : ℕ) → is_on (picked changes most last) change ≡ true
-    → is_on changes change ≡ true
+on_picked : (changes : List ℕ) (most last : ℕ) (change : ℕ) → is_on_list (picked changes most last) change ≡ true
+    → is_on_list changes change ≡ true
 on_picked changes most last change on =
     on_picked_by (nat_le (length changes) most) changes (take (most - last) changes)
     (drop (length changes - last) changes) change (on_take (most - last) changes change)
@@ -92,18 +94,18 @@ on_picked changes most last change on =
 -- ---- the first class
 
 on_class : (none : Bool) (plan : Plan) (change : ℕ)
-    → is_on (if none then plan.waiting.items else known_waiting plan) change ≡ true
-    → is_on plan.waiting.items change ≡ true
+    → is_on_list (if none then plan.waiting.items else known_waiting plan) change ≡ true
+    → is_on_list plan.waiting.items change ≡ true
 on_class true plan change on = on
 on_class false plan change on = (on_filtered (is_known_by plan.marks) plan.waiting.items change on).0
 
 class_known : (none : Bool) (plan : Plan) (change : ℕ) → none ≡ false
-    → is_on (if none then plan.waiting.items else known_waiting plan) change ≡ true
+    → is_on_list (if none then plan.waiting.items else known_waiting plan) change ≡ true
     → is_known_by plan.marks change ≡ true
 class_known true plan change is on = absurd (false≢true (sym is))
 class_known false plan change is on = (on_filtered (is_known_by plan.marks) plan.waiting.items change on).1
 
-some_on : (changes : List ℕ) (change : ℕ) → is_on changes change ≡ true → is_empty changes ≡ false
+some_on : (changes : List ℕ) (change : ℕ) → is_on_list changes change ≡ true → is_empty changes ≡ false
 some_on [] change on = absurd (false≢true on)
 some_on (x ∷ changes) change on = eqb-suc-zero (length changes)
 

@@ -6,7 +6,8 @@ use Rattle.std.proofs.lemmas.Bool.{false≢true}
 use Rattle.std.specs.Io.KnownBytes.{Consumes, IsAtEnd}
 use Rattle.byte_ends.specs.Lines.{without_cr}
 use Rattle.line_reader.specs.Lines.{BeginsWithLine, Hands, Reading}
-use Rattle.query_plan.specs.Running.{Answers, AreAnswered, At, Does, End, Ends, HaveCome, IsAnswered, LineComes}
+use Rattle.query_plan.specs.Running.{Answers, AreLinesAnswered, At, Does, Output, EndsLine, HaveCome, IsAnswered}
+use Rattle.query_plan.specs.Running.{LineComes}
 use Rattle.query_plan.specs.Running.{RunsTo}
 use Rattle.query_plan.specs.declared.fault.PlanFault.{PlanFault}
 use Rattle.query_plan.specs.declared.fault.PlanFault.TheVariants.{BadLine, NoQuery, ReadFault, WriteFault, NoMemory}
@@ -14,15 +15,16 @@ use Rattle.query_plan.specs.declared.line.Line.{Line}
 use Rattle.query_plan.specs.declared.plan.Plan.{Plan}
 
 -- where a run is that reads so
-abbrev pub at : Plan → Reading → Option (List ℕ) → ℕ → End → End → At
+abbrev pub at : Plan → Reading → Option (List ℕ) → ℕ → Output → Output → At
 at plan reading left unread output errors =
     record { plan = plan; held = reading.held; left = left; unread = unread; output = output; errors = errors }
 
 -- ---- a line came
 
-line_does : (limit number : ℕ) (old new : At) (line : Line) (result : Result Bool PlanFault) → LineComes limit line old new
+line_does : (limit number : ℕ) (old new : At) (line : Line) (result : Result Bool PlanFault)
+    → LineComes limit line old new
     → Does line number old.plan old.output old.errors result new.plan new.output new.errors
-    → Ends limit number old result new
+    → EndsLine limit number old result new
 line_does limit number old new line (Ok true) comes does = record {
   line = line;
   comes = comes;
@@ -48,12 +50,12 @@ line_does limit number old new line (Err NoMemory) comes does = (does.0, does.1)
 line_says : (limit number : ℕ) (old new : At) (came piece line : List ℕ) (result : Result Bool PlanFault)
     → HaveCome came old new → BeginsWithLine limit (old.held ++ came) piece new.held → line ≡ without_cr piece
     → Answers line number old.plan old.output old.errors result new.plan new.output new.errors
-    → Ends limit number old result new
+    → EndsLine limit number old result new
 line_says limit number old new came piece line result read begins is (inl says) =
     line_does limit number old new says.0 result
     (record { came = came; read = read; piece = piece; begins = begins; spelled = sym is ∙ says.1 }) says.2
 line_says limit number old new came piece line result read begins is (inr (inl nothing)) =
-    let ends : Ends limit number old (Err (BadLine number)) new = (
+    let ends : EndsLine limit number old (Err (BadLine number)) new = (
       refl,
       record {
         came = came;
@@ -62,37 +64,44 @@ line_says limit number old new came piece line result read begins is (inr (inl n
         silent = (nothing.3, nothing.4);
       },
     ) in
-    subst (λ (r : Result Bool PlanFault). Ends limit number old r new) (sym nothing.0) ends
+    subst (λ (r : Result Bool PlanFault). EndsLine limit number old r new) (sym nothing.0) ends
 line_says limit number old new came piece line result read begins is (inr (inr full)) =
-    let ends : Ends limit number old (Err NoMemory) new = (full.1, full.2) in
-    subst (λ (r : Result Bool PlanFault). Ends limit number old r new) (sym full.0) ends
+    let ends : EndsLine limit number old (Err NoMemory) new = (full.1, full.2) in
+    subst (λ (r : Result Bool PlanFault). EndsLine limit number old r new) (sym full.0) ends
 
-pub line_ends : (number : ℕ) (plan plan' : Plan) (before after : Reading) (left left' : Option (List ℕ)) (unread unread' : ℕ)
-    (output output' errors errors' : End) (more : Bool) (line : List ℕ) (result : Result Bool PlanFault) → more ≡ true
+pub line_ends : (number : ℕ) (plan plan' : Plan) (before after : Reading) (left left' : Option (List ℕ))
+    (unread unread' : ℕ)
+    (output output' errors errors' : Output) (more : Bool) (line : List ℕ) (result : Result Bool PlanFault)
+    → more ≡ true
     → (came : List ℕ) × Consumes left left' came × Hands before came (Ok more) after
     → unread' ≡ unread → line ≡ after.line → Answers line number plan output errors result plan' output' errors'
-    → Ends before.limit number (at plan before left unread output errors) result (at plan' after left' unread' output' errors')
+    → EndsLine before.limit number (at plan before left unread output errors) result
+    (at plan' after left' unread' output' errors')
 line_ends number plan plan' before after left left' unread unread' output output' errors errors' false line result is hands count says answers =
     absurd (false≢true is)
 line_ends number plan plan' before after left left' unread unread' output output' errors errors' true line result is hands count says answers =
-    line_says before.limit number (at plan before left unread output errors) (at plan' after left' unread' output' errors')
-    hands.0 hands.2.0 line result (record { consumed = hands.1; none_failed = count }) hands.2.1 (says ∙ hands.2.2) answers
+    line_says before.limit number (at plan before left unread output errors)
+    (at plan' after left' unread' output' errors')
+    hands.0 hands.2.0 line result (record { consumed = hands.1; none_failed = count }) hands.2.1
+    (says ∙ hands.2.2) answers
 
 -- ---- no line came
 
-pub source_ends : (number : ℕ) (plan : Plan) (before after : Reading) (left left' : Option (List ℕ)) (unread unread' : ℕ)
-    (output errors : End) (more : Bool) (held : List ℕ) (result : Result Bool PlanFault) → more ≡ false
+pub source_ends : (number : ℕ) (plan : Plan) (before after : Reading) (left left' : Option (List ℕ))
+    (unread unread' : ℕ)
+    (output errors : Output) (more : Bool) (held : List ℕ) (result : Result Bool PlanFault) → more ≡ false
     → (came : List ℕ) × Consumes left left' came × Hands before came (Ok more) after
     → IsAtEnd left' → unread' ≡ unread → held ≡ after.held
     → IfOk result (λ found. (found ≡ false) × (held ≡ []))
     → IfErr result (λ fault. (fault ≡ BadLine number) × ¬ (held ≡ []))
-    → Ends before.limit number (at plan before left unread output errors) result (at plan after left' unread' output errors)
+    → EndsLine before.limit number (at plan before left unread output errors) result
+    (at plan after left' unread' output errors)
 source_ends number plan before after left left' unread unread' output errors true held result is hands ended count shown ok refused =
     absurd (false≢true (sym is))
 source_ends number plan before after left left' unread unread' output errors false held (Ok found) is hands ended count shown ok refused =
     let old = at plan before left unread output errors in
     let new = at plan after left' unread' output errors in
-    let ends : Ends before.limit number old (Ok false) new = record {
+    let ends : EndsLine before.limit number old (Ok false) new = record {
       came = hands.0;
       read = record { consumed = hands.1; none_failed = count };
       none_held = sym hands.2.1 ∙ sym shown ∙ ok.1;
@@ -100,11 +109,11 @@ source_ends number plan before after left left' unread unread' output errors fal
       silent = (refl, refl);
       same = refl;
     } in
-    subst (λ (b : Bool). Ends before.limit number old (Ok b) new) (sym ok.0) ends
+    subst (λ (b : Bool). EndsLine before.limit number old (Ok b) new) (sym ok.0) ends
 source_ends number plan before after left left' unread unread' output errors false held (Err fault) is hands ended count shown ok refused =
     let old = at plan before left unread output errors in
     let new = at plan after left' unread' output errors in
-    let ends : Ends before.limit number old (Err (BadLine number)) new = (
+    let ends : EndsLine before.limit number old (Err (BadLine number)) new = (
       refl,
       record {
         came = hands.0;
@@ -113,35 +122,36 @@ source_ends number plan before after left left' unread unread' output errors fal
         silent = (refl, refl);
       },
     ) in
-    subst (λ (f : PlanFault). Ends before.limit number old (Err f) new) (sym refused.0) ends
+    subst (λ (f : PlanFault). EndsLine before.limit number old (Err f) new) (sym refused.0) ends
 
 -- ---- all lines
 
-pub one_more : (limit count : ℕ) (first last new : At) → AreAnswered limit count first last → IsAnswered limit last new
-    → AreAnswered limit (count + 1) first new
+pub one_more : (limit count : ℕ) (first last new : At) → AreLinesAnswered limit count first last
+    → IsAnswered limit last new
+    → AreLinesAnswered limit (count + 1) first new
 one_more limit count first last new before now =
-    let all : AreAnswered limit (suc count) first new = (last, before, now) in
-    subst (λ (n : ℕ). AreAnswered limit n first new) (sym (add-one count)) all
+    let all : AreLinesAnswered limit (suc count) first new = (last, before, now) in
+    subst (λ (n : ℕ). AreLinesAnswered limit n first new) (sym (add-one count)) all
 
 -- one more line was answered
 pub answered_one : (limit limit' count : ℕ) (first last new : At) (more : Bool) → limit' ≡ limit → more ≡ true
-    → AreAnswered limit count first last → Ends limit' (count + 1) last (Ok more) new
-    → AreAnswered limit (count + 1) first new
+    → AreLinesAnswered limit count first last → EndsLine limit' (count + 1) last (Ok more) new
+    → AreLinesAnswered limit (count + 1) first new
 answered_one limit limit' count first last new more same is before ends =
-    let now = subst (λ (b : Bool). Ends limit' (count + 1) last (Ok b) new) is ends in
+    let now = subst (λ (b : Bool). EndsLine limit' (count + 1) last (Ok b) new) is ends in
     one_more limit count first last new before (subst (λ (n : ℕ). IsAnswered n last new) same now)
 
 -- the next line ended the run
 pub ran_to : (limit limit' count : ℕ) (first last new : At) (result wanted : Result Bool PlanFault) → limit' ≡ limit
-    → result ≡ wanted → AreAnswered limit count first last → Ends limit' (count + 1) last result new
+    → result ≡ wanted → AreLinesAnswered limit count first last → EndsLine limit' (count + 1) last result new
     → RunsTo limit first new wanted
 ran_to limit limit' count first last new result wanted same is before ends =
-    let here = subst (λ (n : ℕ). Ends n (count + 1) last result new) same ends in
+    let here = subst (λ (n : ℕ). EndsLine n (count + 1) last result new) same ends in
     record {
       count = count;
       last = last;
       answered = before;
-      ended = subst (λ (r : Result Bool PlanFault). Ends limit (count + 1) last r new) is here;
+      ended = subst (λ (r : Result Bool PlanFault). EndsLine limit (count + 1) last r new) is here;
     }
 
 -- memory was refused before the first line
@@ -149,6 +159,7 @@ pub ran_nowhere : (limit : ℕ) (first : At) → RunsTo limit first first (Err N
 ran_nowhere limit first = record { count = 0; last = first; answered = refl; ended = (refl, refl) }
 
 -- all the lines that there may be were answered
-pub ran_out : (limit count : ℕ) (first last : At) → count ≡ 18446744073709551615 → AreAnswered limit count first last
-    → AreAnswered limit 18446744073709551615 first last
-ran_out limit count first last is before = subst (λ (n : ℕ). AreAnswered limit n first last) is before
+pub ran_out : (limit count : ℕ) (first last : At) → count ≡ 18446744073709551615
+    → AreLinesAnswered limit count first last
+    → AreLinesAnswered limit 18446744073709551615 first last
+ran_out limit count first last is before = subst (λ (n : ℕ). AreLinesAnswered limit n first last) is before

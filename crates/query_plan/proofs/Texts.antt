@@ -12,7 +12,7 @@ use Rattle.std.proofs.lemmas.Fmt.{IsAscii-decimal, decimal_is_IsNumeral, parse-d
 use Rattle.std.proofs.lemmas.Str.{IsAscii-append, IsUtf8-from_ascii}
 use Rattle.std.proofs.lemmas.Str.Parse.{not_in_digits, numerals_by_value, tells_digits}
 use Rattle.std.proofs.lemmas.Str.Pattern.{IsSplitOnceResult, split_after}
-use Rattle.query_plan.specs.Line.{LacksBlank, LineFits, WordFits, line_text, word_first, word_rest, word_text}
+use Rattle.query_plan.specs.Line.{LacksBlank, LineFits, WordFits, plan_line_text, word_alone, word_rest, word_text}
 use Rattle.query_plan.specs.declared.line.Line.{Line}
 use Rattle.query_plan.specs.declared.line.Word.{Word}
 use Rattle.query_plan.specs.declared.line.Word.TheVariants.{Ask, Need, All, Next, Listed, Whole, Refused, Late, Lost}
@@ -74,9 +74,9 @@ ascii_word Refused fits = ascii_tested (codes "refused") refl
 ascii_word Late fits = ascii_tested (codes "late") refl
 ascii_word Lost fits = ascii_tested (codes "lost") refl
 
-pub line_utf8 : (line : Line) → LineFits line → IsUtf8 (line_text line)
+pub line_utf8 : (line : Line) → LineFits line → IsUtf8 (plan_line_text line)
 line_utf8 line fits =
-    IsUtf8-from_ascii (line_text line)
+    IsUtf8-from_ascii (plan_line_text line)
     (IsAscii-append (decimal line.time ++ codes " ") (word_text line.word)
     (IsAscii-append (decimal line.time) (codes " ") (IsAscii-decimal line.time fits.time) (ascii_tested (codes " ") refl))
     (ascii_word line.word fits.word))
@@ -90,7 +90,7 @@ lacks_by (byte ∷ bytes) all zero within =
 lacks_by (byte ∷ bytes) all (suc i) within =
     lacks_by bytes (both_true (not (byte == 32)) (list_all (λ b. not (b == 32)) bytes) all).1 i (omega arith)
 
-pub line_pieces : (line : Line) → line_text line ≡ decimal line.time ++ 32 ∷ word_text line.word
+pub line_pieces : (line : Line) → plan_line_text line ≡ decimal line.time ++ 32 ∷ word_text line.word
 line_pieces line = append_assoc (decimal line.time) (codes " ") (word_text line.word)
 
 -- what comes before the first blank of a text, and after it
@@ -104,9 +104,11 @@ bare name text first rest plain cuts is =
     let parts = cuts.whole (subst LacksBlank (sym is) (lacks_by name plain)) in (parts.0 ∙ is, parts.1)
 
 pub word_pieces : (word : Word) (text first rest : List ℕ) → IsCut text first rest → text ≡ word_text word
-    → (first ≡ word_first word) × (rest ≡ word_rest word)
-word_pieces (Ask change) text first rest cuts is = cuts.cut (codes "ask") (decimal change) (lacks_by (codes "ask") refl) is
-word_pieces (Need change) text first rest cuts is = cuts.cut (codes "need") (decimal change) (lacks_by (codes "need") refl) is
+    → (first ≡ word_alone word) × (rest ≡ word_rest word)
+word_pieces (Ask change) text first rest cuts is =
+    cuts.cut (codes "ask") (decimal change) (lacks_by (codes "ask") refl) is
+word_pieces (Need change) text first rest cuts is =
+    cuts.cut (codes "need") (decimal change) (lacks_by (codes "need") refl) is
 word_pieces All text first rest cuts is = bare (codes "all") text first rest refl cuts is
 word_pieces Next text first rest cuts is = bare (codes "next") text first rest refl cuts is
 word_pieces (Listed change) text first rest cuts is =

@@ -5,7 +5,7 @@ use Rattle.std.specs.List.{filter}
 use Rattle.std.specs.Ordering.{nat_cmp}
 use Rattle.std.specs.BTreeSet.{BTreeSet, Updates, contains}
 use Rattle.query_plan.specs.Marks.{as_failed, as_listed, as_repeated, as_slow, as_unlisted}
-use Rattle.query_plan.specs.Plan.{is_on, marks_at}
+use Rattle.query_plan.specs.Plan.{is_on_list, marks_at}
 use Rattle.query_plan.specs.Schedule.{brought_forward, later, lost_changes, paused_all, refused_changes, whole_all}
 use Rattle.query_plan.specs.Schedule.{whole_changes}
 use Rattle.query_plan.specs.declared.marks.Marks.{Marks}
@@ -24,7 +24,7 @@ pub record Lists (change : ℕ) (old new : Plan) : Type 0 where
   pub planned : new.schedule ≡ old.schedule
 
 -- the query that was under way is over
-pub record IsOver (new : Plan) : Type 0 where
+pub record IsQueryOver (new : Plan) : Type 0 where
   pub none_named : new.named.items ≡ []
   pub none_listed : (change : ℕ) → contains nat_cmp new.listed change ≡ false
 
@@ -41,20 +41,20 @@ is_all Changes = false
 
 -- a change waits on that was neither named nor listed
 abbrev pub stays : List ℕ → BTreeSet ℕ → ℕ → Bool
-stays named listed change = not (is_on named change) && not (contains nat_cmp listed change)
+stays named listed change = not (is_on_list named change) && not (contains nat_cmp listed change)
 
 -- what was listed doesn't rest; what was named alone rests for an hour
 abbrev pub marked : Bool → ℕ → List ℕ → BTreeSet ℕ → ℕ → Marks → Marks
 marked all until named listed change old =
     if contains nat_cmp listed change then as_listed all old
-    else (if is_on named change then as_unlisted until old else old)
+    else (if is_on_list named change then as_unlisted until old else old)
 
 pub record EndsWell (now : ℕ) (old new : Plan) : Type 0 where
   pub waits : new.waiting.items ≡ filter (stays old.named.items old.listed) old.waiting.items
   pub kept : (change : ℕ) → marks_at new.marks change
       ≡ marked (is_all old.schedule.query) (later now 3600) old.named.items old.listed change
       (marks_at old.marks change)
-  pub over : IsOver new
+  pub over : IsQueryOver new
   pub planned : new.schedule
       ≡ (if is_all old.schedule.query then whole_all now old.schedule else whole_changes old.schedule)
 
@@ -100,15 +100,15 @@ pub record IsGivenUp (now change : ℕ) (late : Bool) (old : Plan) (told : Notic
   pub notice : told ≡ (if late && old.schedule.is_well then Slow change else Failed change)
 
 -- what becomes of a change that was named alone
-abbrev pub IsRefused : ℕ → ℕ → Bool → Plan → Notice → Plan → Type 0
-IsRefused now change late old told new =
+abbrev pub IsChangeRefused : ℕ → ℕ → Bool → Plan → Notice → Plan → Type 0
+IsChangeRefused now change late old told new =
     IsRepeated now change late old told new ⊎ IsGivenUp now change late old told new
 
 -- what becomes of the changes that were named, which Gerrit refused or took too long for
-abbrev pub AreRefused : ℕ → Bool → List ℕ → Plan → Notice → Plan → Type 0
-AreRefused now late [] old told new = IsHalved now 0 late old told new
-AreRefused now late (change ∷ []) old told new = IsRefused now change late old told new
-AreRefused now late (change ∷ other ∷ changes) old told new =
+abbrev pub AreChangesRefused : ℕ → Bool → List ℕ → Plan → Notice → Plan → Type 0
+AreChangesRefused now late [] old told new = IsHalved now 0 late old told new
+AreChangesRefused now late (change ∷ []) old told new = IsChangeRefused now change late old told new
+AreChangesRefused now late (change ∷ other ∷ changes) old told new =
     IsHalved now (length (change ∷ other ∷ changes)) late old told new
 
 -- no answer came: all wait on
@@ -124,8 +124,8 @@ pub record IsPaused (now : ℕ) (old : Plan) (told : Notice) (new : Plan) : Type
   pub notice : told ≡ Paused old.schedule.all_pause
 
 abbrev pub ChangesFail : ℕ → Failure → List ℕ → Plan → Notice → Plan → Type 0
-ChangesFail now Refused named old told new = AreRefused now false named old told new
-ChangesFail now Late named old told new = AreRefused now true named old told new
+ChangesFail now Refused named old told new = AreChangesRefused now false named old told new
+ChangesFail now Late named old told new = AreChangesRefused now true named old told new
 ChangesFail now Lost named old told new = AreLost now (length named) old told new
 
 abbrev pub QueryFails : Query → ℕ → Failure → Plan → Notice → Plan → Type 0
@@ -135,4 +135,4 @@ QueryFails Changes now failure old told new = ChangesFail now failure old.named.
 
 -- the query under way failed
 abbrev pub EndsBadly : ℕ → Failure → Plan → Notice → Plan → Type 0
-EndsBadly now failure old told new = QueryFails old.schedule.query now failure old told new × IsOver new
+EndsBadly now failure old told new = QueryFails old.schedule.query now failure old told new × IsQueryOver new

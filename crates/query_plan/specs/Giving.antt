@@ -44,12 +44,12 @@ pub record NamesChanges (left : ℕ) (old new : Plan) : Type 0 where
   pub planned : new.schedule ≡ given_changes left (length (portion left old)) old.schedule
 
 -- a turn that may query so many changes goes on, or ends where nothing waits or all of these were queried
-abbrev pub GoesOn : ℕ → ℕ → Plan → Query → Plan → Type 0
-GoesOn now left old Nothing new =
+abbrev pub GoesOnWithTurn : ℕ → ℕ → Plan → Query → Plan → Type 0
+GoesOnWithTurn now left old Nothing new =
     ((left ≡ 0) ⊎ (is_empty old.waiting.items ≡ true)) × (new.schedule ≡ turn_ended now old.schedule)
     × (new.named ≡ old.named)
-GoesOn now left old All new = ⊥
-GoesOn now left old Changes new = NamesChanges left old new
+GoesOnWithTurn now left old All new = ⊥
+GoesOnWithTurn now left old Changes new = NamesChanges left old new
 
 -- all changes are queried, in a turn that begins
 pub record BeginsWithAll (now : ℕ) (old new : Plan) : Type 0 where
@@ -68,18 +68,18 @@ pub record BeginsWithChanges (now : ℕ) (old : Plan) (given : Query) (new : Pla
   pub all_later : now < old.schedule.all_due
   pub due : old.schedule.waiting_due ≤ now
   pub some_wait : is_empty old.waiting.items ≡ false
-  pub goes_on : GoesOn now old.schedule.most old given new
+  pub goes_on : GoesOnWithTurn now old.schedule.most old given new
 
 -- a turn begins, if something is due
-abbrev pub Begins : ℕ → Plan → Query → Plan → Type 0
-Begins now old given new =
+abbrev pub BeginsTurn : ℕ → Plan → Query → Plan → Type 0
+BeginsTurn now old given new =
     ((given ≡ All) × BeginsWithAll now old new) ⊎ ((given ≡ Nothing) × IsNotDue now old new)
     ⊎ BeginsWithChanges now old given new
 
 abbrev pub GoesOnOrBegins : Option ℕ → ℕ → Plan → Query → Plan → Type 0
-GoesOnOrBegins (Some left) now old given new = GoesOn now left old given new
-GoesOnOrBegins None now old given new = Begins now old given new
+GoesOnOrBegins (Some left) now old given new = GoesOnWithTurn now left old given new
+GoesOnOrBegins None now old given new = BeginsTurn now old given new
 
 -- the next query is given
-abbrev pub Gives : ℕ → Plan → Query → Plan → Type 0
-Gives now old given new = GoesOnOrBegins old.schedule.left now old given new × HasSame old new
+abbrev pub GivesQuery : ℕ → Plan → Query → Plan → Type 0
+GivesQuery now old given new = GoesOnOrBegins old.schedule.left now old given new × HasSame old new

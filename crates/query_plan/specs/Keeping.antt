@@ -3,7 +3,7 @@ use Rattle.std.specs.Prelude.{◌≡◌, ◌≤◌, ◌<◌, ◌⊎◌, ℕ, tru
 use Rattle.std.specs.Ordering.{nat_cmp}
 use Rattle.std.specs.BTreeSet.{contains}
 use Rattle.query_plan.specs.Giving.{portion}
-use Rattle.query_plan.specs.Plan.{IsNew, is_empty, is_known_by, is_on, marks_at}
+use Rattle.query_plan.specs.Plan.{IsNewPlan, is_empty, is_known_by, is_on_list, marks_at}
 use Rattle.query_plan.specs.Stepping.{StepsSo}
 use Rattle.query_plan.specs.declared.line.Word.{Word}
 use Rattle.query_plan.specs.declared.line.Word.TheVariants.{Ask, Need, All, Next, Listed, Whole, Refused, Late, Lost}
@@ -11,8 +11,8 @@ use Rattle.query_plan.specs.declared.plan.Plan.{Plan}
 use Rattle.query_plan.specs.declared.schedule.Settings.{Settings}
 use Rattle.query_plan.specs.declared.step.Answer.{Answer}
 
-abbrev pub Waits : Plan → ℕ → Type 0
-Waits plan change = is_on plan.waiting.items change ≡ true
+abbrev pub IsWaiting : Plan → ℕ → Type 0
+IsWaiting plan change = is_on_list plan.waiting.items change ≡ true
 
 -- a change need not wait any more: a whole answer came that listed it, or to a query that named it; or a query failed
 -- that named it alone
@@ -22,7 +22,7 @@ Releases (Need other) plan change = ⊥
 Releases All plan change = ⊥
 Releases Next plan change = ⊥
 Releases (Listed other) plan change = ⊥
-Releases Whole plan change = (is_on plan.named.items change ≡ true) ⊎ (contains nat_cmp plan.listed change ≡ true)
+Releases Whole plan change = (is_on_list plan.named.items change ≡ true) ⊎ (contains nat_cmp plan.listed change ≡ true)
 Releases Refused plan change = plan.named.items ≡ change ∷ []
 Releases Late plan change = plan.named.items ≡ change ∷ []
 Releases Lost plan change = ⊥
@@ -30,15 +30,15 @@ Releases Lost plan change = ⊥
 -- whatever comes, a change that waits goes on waiting unless that releases it
 abbrev pub WaitsOn : Type 0
 WaitsOn = (word : Word) (now change : ℕ) (old new : Plan) (answer : Answer) → StepsSo word now old answer new
-    → Waits old change → Releases word old change ⊎ Waits new change
+    → IsWaiting old change → Releases word old change ⊎ IsWaiting new change
 
 -- what a query of changes names: some of those that wait, at most so many, and known ones alone where one waits
 pub record IsPortion (most : ℕ) (plan : Plan) (named : List ℕ) : Type 0 where
-  pub wait : (change : ℕ) → is_on named change ≡ true → Waits plan change
+  pub wait : (change : ℕ) → is_on_list named change ≡ true → IsWaiting plan change
   pub few : length named ≤ most
   pub some : is_empty named ≡ false
-  pub known_first : (change other : ℕ) → Waits plan change → is_known_by plan.marks change ≡ true
-      → is_on named other ≡ true → is_known_by plan.marks other ≡ true
+  pub known_first : (change other : ℕ) → IsWaiting plan change → is_known_by plan.marks change ≡ true
+      → is_on_list named other ≡ true → is_known_by plan.marks other ≡ true
 
 abbrev pub NamesPortions : Type 0
 NamesPortions = (most : ℕ) (plan : Plan) → 0 < most → is_empty plan.waiting.items ≡ false
@@ -46,10 +46,10 @@ NamesPortions = (most : ℕ) (plan : Plan) → 0 < most → is_empty plan.waitin
 
 -- the list of those that wait and what is kept of each change agree on which ones wait
 abbrev pub Agrees : Plan → Type 0
-Agrees plan = (change : ℕ) → (marks_at plan.marks change).waits ≡ is_on plan.waiting.items change
+Agrees plan = (change : ℕ) → (marks_at plan.marks change).waits ≡ is_on_list plan.waiting.items change
 
 -- they do in a new plan, and whatever comes
 pub record AgreesOn : Type 0 where
-  pub begins : (settings : Settings) (plan : Plan) → IsNew settings plan → Agrees plan
+  pub begins : (settings : Settings) (plan : Plan) → IsNewPlan settings plan → Agrees plan
   pub goes_on : (word : Word) (now : ℕ) (old new : Plan) (answer : Answer) → StepsSo word now old answer new
       → Agrees old → Agrees new

@@ -9,16 +9,16 @@ abbrev pub LacksBlank : List ℕ → Type 0
 LacksBlank bytes = (i : ℕ) → i < length bytes → slice_index bytes i ≢ 32
 
 -- the word alone
-abbrev pub word_first : Word → List ℕ
-word_first (Ask change) = codes "ask"
-word_first (Need change) = codes "need"
-word_first All = codes "all"
-word_first Next = codes "next"
-word_first (Listed change) = codes "listed"
-word_first Whole = codes "whole"
-word_first Refused = codes "refused"
-word_first Late = codes "late"
-word_first Lost = codes "lost"
+abbrev pub word_alone : Word → List ℕ
+word_alone (Ask change) = codes "ask"
+word_alone (Need change) = codes "need"
+word_alone All = codes "all"
+word_alone Next = codes "next"
+word_alone (Listed change) = codes "listed"
+word_alone Whole = codes "whole"
+word_alone Refused = codes "refused"
+word_alone Late = codes "late"
+word_alone Lost = codes "lost"
 
 -- the number of the change of which it speaks
 abbrev pub word_rest : Word → List ℕ
@@ -45,8 +45,8 @@ word_text Late = codes "late"
 word_text Lost = codes "lost"
 
 -- the line, without its line end
-abbrev pub line_text : Line → List ℕ
-line_text line = decimal line.time ++ codes " " ++ word_text line.word
+abbrev pub plan_line_text : Line → List ℕ
+plan_line_text line = decimal line.time ++ codes " " ++ word_text line.word
 
 -- a change's number has at most 32 bits, and a time 64
 abbrev pub WordFits : Word → Type 0

@@ -16,8 +16,8 @@ abbrev pub marks_at : BTreeMap ℕ Marks → ℕ → Marks
 marks_at marks change = unwrap_or (get nat_cmp marks change) unmarked
 
 -- the change is on the list
-abbrev pub is_on : List ℕ → ℕ → Bool
-is_on changes change = list_any (λ other. other == change) changes
+abbrev pub is_on_list : List ℕ → ℕ → Bool
+is_on_list changes change = list_any (λ other. other == change) changes
 
 abbrev pub is_empty : List ℕ → Bool
 is_empty changes = length changes == 0
@@ -27,7 +27,7 @@ abbrev pub is_known_by : BTreeMap ℕ Marks → ℕ → Bool
 is_known_by marks change = (marks_at marks change).is_known
 
 -- nothing waits, nothing is kept, and all changes are due
-pub record IsNew (settings : Settings) (plan : Plan) : Type 0 where
+pub record IsNewPlan (settings : Settings) (plan : Plan) : Type 0 where
   pub none_waits : plan.waiting.items ≡ []
   pub none_kept : (change : ℕ) → marks_at plan.marks change ≡ unmarked
   pub none_named : plan.named.items ≡ []
@@ -35,8 +35,8 @@ pub record IsNew (settings : Settings) (plan : Plan) : Type 0 where
   pub planned : plan.schedule ≡ new_schedule settings
 
 -- the greatest number of a change that Gerrit takes
-abbrev pub greatest : ℕ
-greatest = 2147483647
+abbrev pub greatest_change : ℕ
+greatest_change = 2147483647
 
 abbrev pub marks_asked : Bool → Marks → Marks
 marks_asked event old = if event then with_event old else old
@@ -48,17 +48,18 @@ marks_after begins event old = if begins then as_waiting (marks_asked event old)
 -- a change begins to wait where it is asked for, unless Gerrit has none of its number, it rests, or it waits already
 abbrev pub begins_to_wait : ℕ → ℕ → Bool → Plan → Bool
 begins_to_wait now change event plan =
-    nat_le change greatest
+    nat_le change greatest_change
     && (not (rests now plan.schedule.round (marks_asked event (marks_at plan.marks change)))
     && not (marks_at plan.marks change).waits)
 
 -- a change is asked for: it waits behind all others, and is known where it had an event
-pub record Asks (now change : ℕ) (event : Bool) (old new : Plan) : Type 0 where
+pub record IsAskedFor (now change : ℕ) (event : Bool) (old new : Plan) : Type 0 where
   pub waits : new.waiting.items
       ≡ (if begins_to_wait now change event old then old.waiting.items ++ change ∷ [] else old.waiting.items)
   pub kept : (other : ℕ) → marks_at new.marks other
-      ≡ (if nat_le change greatest && (other == change)
-      then marks_after (begins_to_wait now change event old) event (marks_at old.marks other) else marks_at old.marks other)
+      ≡ (if nat_le change greatest_change && (other == change)
+      then marks_after (begins_to_wait now change event old) event
+      (marks_at old.marks other) else marks_at old.marks other)
   pub planned : new.schedule
       ≡ (if begins_to_wait now change event old && is_empty old.waiting.items then gathered now old.schedule
       else old.schedule)

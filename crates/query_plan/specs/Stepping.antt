@@ -1,8 +1,8 @@
 -- What a line does to a plan, and what is answered.
 use Rattle.std.specs.Prelude.{◌≡◌, ℕ, true, false, Option, None, Some}
 use Rattle.query_plan.specs.Ending.{EndsBadly, EndsWell, Lists}
-use Rattle.query_plan.specs.Giving.{Gives}
-use Rattle.query_plan.specs.Plan.{Asks, WantsAll}
+use Rattle.query_plan.specs.Giving.{GivesQuery}
+use Rattle.query_plan.specs.Plan.{IsAskedFor, WantsAll}
 use Rattle.query_plan.specs.declared.line.Word.{Word}
 use Rattle.query_plan.specs.declared.line.Word.TheVariants.{Ask, Need, All, Next, Listed, Whole, Refused, Late, Lost}
 use Rattle.query_plan.specs.declared.notice.Notice.{Notice}
@@ -32,7 +32,7 @@ LosesQuery Changes now old notice new = (told : Notice) × (notice ≡ Some told
 abbrev pub GivesNext : ℕ → Plan → Answer → Plan → Type 0
 GivesNext now old answer new =
     (between : Plan) × LosesQuery old.schedule.query now old answer.notice between
-    × (given : Query) × (answer.given ≡ Some given) × Gives now between given new
+    × (given : Query) × (answer.given ≡ Some given) × GivesQuery now between given new
 
 -- the query under way failed
 abbrev pub FailsSo : Failure → ℕ → Plan → Answer → Plan → Type 0
@@ -41,8 +41,8 @@ FailsSo failure now old answer new = IsUnderWay old
 
 -- what a word does at a time
 abbrev pub StepsSo : Word → ℕ → Plan → Answer → Plan → Type 0
-StepsSo (Ask change) now old answer new = (answer ≡ silence) × Asks now change true old new
-StepsSo (Need change) now old answer new = (answer ≡ silence) × Asks now change false old new
+StepsSo (Ask change) now old answer new = (answer ≡ silence) × IsAskedFor now change true old new
+StepsSo (Need change) now old answer new = (answer ≡ silence) × IsAskedFor now change false old new
 StepsSo All now old answer new = (answer ≡ silence) × WantsAll old new
 StepsSo Next now old answer new = GivesNext now old answer new
 StepsSo (Listed change) now old answer new = IsUnderWay old × (answer ≡ silence) × Lists change old new

@@ -1,7 +1,7 @@
 //! What feeds ask for.
 
 ghost use Rattle.std.specs.Prelude.{◌≡◌, OnOk};
-ghost use Rattle.query_plan.specs.Plan.{Asks, WantsAll, marks_asked};
+ghost use Rattle.query_plan.specs.Plan.{IsAskedFor, WantsAll, marks_asked};
 
 use super::marks::Marks;
 use super::plan::Plan;
@@ -17,7 +17,7 @@ impl Plan {
     /// changes nothing. Refusal: memory was refused; the plan may have changed in part, and is no use from then on. It
     /// costs O(log m), for m changes of which something is kept.
     pub fn ask(&mut self, now: u64, change: u32, is_event: bool) -> Result<(), NoMemory>
-        ensures { OnOk result (Asks now change is_event self.old self.new) }
+        ensures { OnOk result (IsAskedFor now change is_event self.old self.new) }
     {
         if change > GREATEST {
             return Ok(());

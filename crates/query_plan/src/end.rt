@@ -4,10 +4,10 @@ ghost use Rattle.std.specs.Prelude.{◌≡◌, ℕ, IfOk, OnOk, not, ◌==◌, �
 ghost use Rattle.std.specs.List.{filter};
 ghost use Rattle.std.specs.Ordering.{nat_cmp};
 ghost use Rattle.std.specs.BTreeSet.{contains};
-ghost use Rattle.query_plan.specs.Ending.{AreRefused, ChangesFail, EndsBadly, EndsWell, HasSameQuery, IsPaused};
-ghost use Rattle.query_plan.specs.Ending.{IsRefused, KeepsBut, Lists, given_up, stays};
+ghost use Rattle.query_plan.specs.Ending.{AreChangesRefused, ChangesFail, EndsBadly, EndsWell, HasSameQuery, IsPaused};
+ghost use Rattle.query_plan.specs.Ending.{IsChangeRefused, KeepsBut, Lists, given_up, stays};
 ghost use Rattle.query_plan.specs.Marks.{as_listed, as_unlisted};
-ghost use Rattle.query_plan.specs.Plan.{is_on, marks_at};
+ghost use Rattle.query_plan.specs.Plan.{is_on_list, marks_at};
 ghost use Rattle.query_plan.specs.Schedule.{brought_forward};
 
 use super::marks::Marks;
@@ -126,7 +126,7 @@ impl Plan {
         named: &[u32],
         is_late: bool,
     ) -> Result<Notice, NoMemory>
-        ensures { IfOk result (λ notice. AreRefused now is_late named.now self.old notice self.new
+        ensures { IfOk result (λ notice. AreChangesRefused now is_late named.now self.old notice self.new
             × HasSameQuery self.old self.new) }
     {
         let [change] = named else {
@@ -144,7 +144,7 @@ impl Plan {
         change: u32,
         is_late: bool,
     ) -> Result<Notice, NoMemory>
-        ensures { IfOk result (λ notice. IsRefused now change is_late self.old notice self.new
+        ensures { IfOk result (λ notice. IsChangeRefused now change is_late self.old notice self.new
             × HasSameQuery self.old self.new) }
     {
         let is_slow = is_late && self.schedule.is_well;
@@ -172,7 +172,8 @@ impl Plan {
         is_slow: bool,
     ) -> Result<(), NoMemory>
         requires { marks ≡ marks_at self.old.marks change }
-        ensures waits { OnOk result (self.new.waiting.items ≡ filter (λ other. not (other == change)) self.old.waiting.items) }
+        ensures waits { OnOk result
+            (self.new.waiting.items ≡ filter (λ other. not (other == change)) self.old.waiting.items) }
         ensures kept { OnOk result
             (KeepsBut change (given_up is_slow now self.old.schedule.round marks) self.old self.new) }
         ensures planned { OnOk result (self.new.schedule
@@ -231,7 +232,7 @@ fn mark_unlisted(
     until: u64,
 ) -> Result<(), NoMemory>
     ensures { OnOk result ((change : ℕ) → marks_at marks.new change
-        ≡ (if is_on named.now change && not (contains nat_cmp listed.now change)
+        ≡ (if is_on_list named.now change && not (contains nat_cmp listed.now change)
         then as_unlisted until (marks_at marks.old change) else marks_at marks.old change)) }
 {
     for change in named {

@@ -2,7 +2,7 @@
 
 ghost use Rattle.std.specs.Prelude.{◌≡◌, ◌≤◌, ◌<◌, ◌/◌, IfOk, None, OnErr, if◌then◌else◌, nat_lt};
 ghost use Rattle.std.specs.List.{filter};
-ghost use Rattle.query_plan.specs.Giving.{Begins, Gives, GoesOn, HasSame, picked, portion};
+ghost use Rattle.query_plan.specs.Giving.{BeginsTurn, GivesQuery, GoesOnWithTurn, HasSame, picked, portion};
 ghost use Rattle.query_plan.specs.Plan.{is_known_by};
 
 use super::marks::Marks;
@@ -20,7 +20,7 @@ impl Plan {
     /// and in a turn that may query 50 in all as many of the last ones. They wait until the query's end. Refusal: memory
     /// was refused, and nothing changed. It costs O(n log m), for n changes that wait and m of which something is kept.
     pub fn next(&mut self, alloc: Global, now: u64) -> Result<Query, NoMemory>
-        ensures gives { IfOk result (λ given. Gives now self.old given self.new) }
+        ensures gives { IfOk result (λ given. GivesQuery now self.old given self.new) }
         ensures refused { OnErr result (self.new ≡ self.old) }
     {
         match self.schedule.left {
@@ -31,7 +31,7 @@ impl Plan {
 
     /// Begins a turn, if something is due.
     fn begin(&mut self, alloc: Global, now: u64) -> Result<Query, NoMemory>
-        ensures gives { IfOk result (λ given. Begins now self.old given self.new × HasSame self.old self.new) }
+        ensures gives { IfOk result (λ given. BeginsTurn now self.old given self.new × HasSame self.old self.new) }
         ensures refused { OnErr result (self.new ≡ self.old) }
     {
         if self.schedule.all_due <= now {
@@ -46,7 +46,8 @@ impl Plan {
 
     /// Goes on with a turn that may query this many changes, or ends it.
     fn go_on(&mut self, alloc: Global, now: u64, left: usize) -> Result<Query, NoMemory>
-        ensures gives { IfOk result (λ given. GoesOn now left self.old given self.new × HasSame self.old self.new) }
+        ensures gives { IfOk result
+            (λ given. GoesOnWithTurn now left self.old given self.new × HasSame self.old self.new) }
         ensures refused { OnErr result (self.new ≡ self.old) }
     {
         if left == 0 || self.waiting.is_empty() {

@@ -1,8 +1,10 @@
 //! What a line says to a plan.
 
-ghost use Rattle.std.specs.Prelude.{◌≡◌, ◌<◌, ◌^◌, ◌++◌, ◌∷◌, ℕ, List, [], IfOk, MatchOption, OnOk, Some, codes, decimal};
+ghost use Rattle.std.specs.Prelude.{◌≡◌, ◌<◌, ◌^◌, ◌++◌, ◌∷◌, ℕ, List, [], IfOk, MatchOption, OnOk, Some, codes};
+ghost use Rattle.std.specs.Prelude.{decimal};
 ghost use Rattle.std.specs.Prelude.{IsSomeAnd, string_bytes};
-ghost use Rattle.query_plan.specs.Line.{LacksBlank, LineFits, WordFits, line_text, word_first, word_rest, word_text};
+ghost use Rattle.query_plan.specs.Line.{LacksBlank, LineFits, WordFits, plan_line_text, word_alone, word_rest};
+ghost use Rattle.query_plan.specs.Line.{word_text};
 
 use std::alloc::{AllocError, Global};
 use std::str;
@@ -40,7 +42,7 @@ pub enum Word {
 /// What a line says, without its line end; none where it says nothing. It costs O(n) for n bytes.
 pub fn read_line(alloc: Global, text: &[u8]) -> Result<Option<Line>, AllocError>
     ensures { IfOk result (λ read. MatchOption read
-        ((line : Line) → LineFits line → ¬ (text.now ≡ line_text line)) (λ line. text.now ≡ line_text line)) }
+        ((line : Line) → LineFits line → ¬ (text.now ≡ plan_line_text line)) (λ line. text.now ≡ plan_line_text line)) }
 {
     match likely_line(text) {
         None => Ok(None),
@@ -51,7 +53,7 @@ pub fn read_line(alloc: Global, text: &[u8]) -> Result<Option<Line>, AllocError>
 /// A line, where this is its text.
 fn confirmed(alloc: Global, text: &[u8], line: Line) -> Result<Option<Line>, AllocError>
     ensures { IfOk result (λ read. MatchOption read
-        (¬ (text.now ≡ line_text line)) (λ other. (other ≡ line) × (text.now ≡ line_text other))) }
+        (¬ (text.now ≡ plan_line_text line)) (λ other. (other ≡ line) × (text.now ≡ plan_line_text other))) }
 {
     let written = text_of(alloc, line)?;
     if written.as_bytes() == text {
@@ -63,7 +65,7 @@ fn confirmed(alloc: Global, text: &[u8], line: Line) -> Result<Option<Line>, All
 
 /// The text of a line.
 fn text_of(alloc: Global, line: Line) -> Result<String, AllocError>
-    ensures { IfOk result (λ text. string_bytes text ≡ line_text line) }
+    ensures { IfOk result (λ text. string_bytes text ≡ plan_line_text line) }
 {
     let mut text = String::new(alloc);
     add_number(&mut text, line.time)?;
@@ -98,7 +100,7 @@ fn add_word(text: &mut String, word: Word) -> Result<(), AllocError>
 
 /// What a line says, where its text is that of what it says.
 fn likely_line(text: &[u8]) -> Option<Line>
-    ensures { (line : Line) → LineFits line → text.now ≡ line_text line → result ≡ Some line }
+    ensures { (line : Line) → LineFits line → text.now ≡ plan_line_text line → result ≡ Some line }
 {
     match str::from_utf8(text) {
         Ok(text) => likely_text(text),
@@ -108,7 +110,7 @@ fn likely_line(text: &[u8]) -> Option<Line>
 
 /// What a text says, where it is that of what it says.
 fn likely_text(text: &str) -> Option<Line>
-    ensures { (line : Line) → LineFits line → text.now ≡ line_text line → result ≡ Some line }
+    ensures { (line : Line) → LineFits line → text.now ≡ plan_line_text line → result ≡ Some line }
 {
     let (time, rest) = cut_at_blank(text)?;
     let time = long_number(time)?;
@@ -126,7 +128,7 @@ fn likely_word(text: &str) -> Option<Word>
 
 /// The word that begins so, where this is what follows it.
 fn word_of(first: &str, rest: &str) -> Option<Word>
-    ensures { (word : Word) → WordFits word → first.now ≡ word_first word → rest.now ≡ word_rest word
+    ensures { (word : Word) → WordFits word → first.now ≡ word_alone word → rest.now ≡ word_rest word
         → result ≡ Some word }
 {
     match first {

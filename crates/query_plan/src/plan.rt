@@ -1,7 +1,7 @@
 //! The plan of a feed's queries.
 
 ghost use Rattle.std.specs.Prelude.{◌≡◌};
-ghost use Rattle.query_plan.specs.Plan.{IsNew, marks_at};
+ghost use Rattle.query_plan.specs.Plan.{IsNewPlan, marks_at};
 
 use super::marks::Marks;
 use super::schedule::{Schedule, Settings};
@@ -25,7 +25,7 @@ pub struct Plan {
 impl Plan {
     /// Nothing waits, and all changes are due.
     pub fn new(alloc: Global, settings: Settings) -> Plan
-        ensures { IsNew settings result }
+        ensures { IsNewPlan settings result }
     {
         Plan {
             waiting: Vec::new(alloc),

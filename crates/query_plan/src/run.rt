@@ -2,8 +2,9 @@
 
 ghost use Rattle.std.specs.Prelude.{◌≡◌, ◌++◌, ℕ, List, [], IfErr, IfOk, OnOk, codes, decimal, false, flat_map};
 ghost use Rattle.std.specs.Prelude.{string_bytes};
-ghost use Rattle.query_plan.specs.Plan.{IsNew};
-ghost use Rattle.query_plan.specs.Running.{Answers, Does, Ends, Runs, Sends, SendsLast, Writes, given_text};
+ghost use Rattle.query_plan.specs.Plan.{IsNewPlan};
+ghost use Rattle.query_plan.specs.Running.{Answers, Does, EndsLine, RunsPlan, PutsOut, PutsOutLast, PutsOutBoth};
+ghost use Rattle.query_plan.specs.Running.{given_text};
 ghost use Rattle.query_plan.specs.Running.{noted_text};
 ghost use Rattle.query_plan.specs.declared.plan.Plan.{Plan};
 
@@ -34,7 +35,7 @@ pub fn plan_queries<S: Source, D: Drain, E: Drain>(
     errors: &mut E,
 ) -> Result<(), PlanFault>
     // The lines are answered in turn, by a plan that is new at first; how the run ends says how the last one does.
-    ensures { (first : Plan) × IsNew settings first × (last : Plan) × (held : List ℕ) × Runs 4096
+    ensures { (first : Plan) × IsNewPlan settings first × (last : Plan) × (held : List ℕ) × RunsPlan 4096
         (record {
           plan = first;
           held = [];
@@ -86,7 +87,7 @@ fn answer_next<S: Source, D: Drain, E: Drain>(
     errors: &mut E,
 ) -> Result<bool, PlanFault>
     ensures limit { reader.new.limit ≡ reader.old.limit }
-    ensures ends { Ends reader.old.limit number
+    ensures ends { EndsLine reader.old.limit number
         (record {
           plan = plan.old;
           held = reader.old.held;
@@ -180,7 +181,7 @@ fn write_answer<D: Drain, E: Drain>(
     output: &mut D,
     errors: &mut E,
 ) -> Result<bool, PlanFault>
-    ensures { Writes (given_text answer.given named.now) (noted_text answer.notice)
+    ensures { PutsOutBoth (given_text answer.given named.now) (noted_text answer.notice)
         (record { taken = D.taken output.old; failed = D.failed output.old })
         (record { taken = E.taken errors.old; failed = E.failed errors.old })
         result
@@ -201,7 +202,7 @@ fn write_answer<D: Drain, E: Drain>(
 
 /// Writes a text, after which the next line may come.
 fn send_last<D: Drain>(drain: &mut D, text: &str) -> Result<bool, PlanFault>
-    ensures { SendsLast text.now
+    ensures { PutsOutLast text.now
         (record { taken = D.taken drain.old; failed = D.failed drain.old })
         (record { taken = D.taken drain.new; failed = D.failed drain.new }) result }
 {
@@ -259,7 +260,7 @@ fn text_noted(alloc: Global, notice: Option<Notice>) -> Result<String, AllocErro
 
 /// Writes a text.
 fn send<D: Drain>(drain: &mut D, text: &str) -> Result<(), PlanFault>
-    ensures { Sends text.now
+    ensures { PutsOut text.now
         (record { taken = D.taken drain.old; failed = D.failed drain.old })
         (record { taken = D.taken drain.new; failed = D.failed drain.new }) result }
 {

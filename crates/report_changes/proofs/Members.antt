@@ -25,7 +25,8 @@ use Rattle.gate_rules.specs.declared.condition.Clause.{Clause}
 use Rattle.gate_rules.specs.declared.condition.Clause.TheVariants.{OpenState, CurrentSet, StatusIn, Approval}
 use Rattle.report_changes.specs.Keeping.{AreSortedListings}
 use Rattle.report_changes.specs.Searching.{both_hold, both_ways, finds, found, same_is_one, item_is_itself}
-use Rattle.report_changes.specs.Listing.{IsLeftOutFor, is_out, is_out_for, is_ready, is_waiting, same_clause, same_item, same_refusal, same_side}
+use Rattle.report_changes.specs.Listing.{IsLeftOutFor, is_out, is_out_for, is_ready, is_waiting, same_clause}
+use Rattle.report_changes.specs.Listing.{is_same_item, same_refusal, same_side}
 
 -- ---- those that are kept of a list in order
 
@@ -68,20 +69,21 @@ neither false q e = (refl, e)
 
 pub ready_has : (listing : Judged) (item : Item) → is_ready listing item ≡ true → Contains listing.ready item
 ready_has listing item e =
-    let there = found (same_item item) listing.ready e in
+    let there = found (is_same_item item) listing.ready e in
     subst (Contains listing.ready) (sym (same_is_one item there.0 there.2)) there.1
 
 pub has_ready : (listing : Judged) (item : Item) → Contains listing.ready item → is_ready listing item ≡ true
-has_ready listing item c = finds (same_item item) listing.ready item c (item_is_itself item)
+has_ready listing item c = finds (is_same_item item) listing.ready item c (item_is_itself item)
 
 pub out_has : (listing : Judged) (item : Item) → is_out listing item ≡ true
     → (left : Left) × Contains listing.out left × (left.item ≡ item)
 out_has listing item e =
-    let there = found (λ left. same_item item left.item) listing.out e in
+    let there = found (λ left. is_same_item item left.item) listing.out e in
     (there.0, there.1, sym (same_is_one item there.0.item there.2))
 
 pub has_out : (listing : Judged) (left : Left) → Contains listing.out left → is_out listing left.item ≡ true
-has_out listing left c = finds (λ other. same_item left.item other.item) listing.out left c (item_is_itself left.item)
+has_out listing left c =
+    finds (λ other. is_same_item left.item other.item) listing.out left c (item_is_itself left.item)
 
 both_true : (p q : Bool) → (p && q) ≡ true → (p ≡ true) × (q ≡ true)
 both_true true q e = (refl, e)
@@ -124,8 +126,8 @@ same_refusals a b e = absurd (false≢true e)
 pub out_for_has : (listing : Judged) (left : Left) → is_out_for listing left ≡ true
     → (other : Left) × Contains listing.out other × (other.item ≡ left.item) × (other.refusal ≡ left.refusal)
 out_for_has listing left e =
-    let there = found (λ other. same_item left.item other.item && same_refusal left.refusal other.refusal) listing.out e in
-    let both = both_true (same_item left.item there.0.item) (same_refusal left.refusal there.0.refusal) there.2 in
+    let there = found (λ other. is_same_item left.item other.item && same_refusal left.refusal other.refusal) listing.out e in
+    let both = both_true (is_same_item left.item there.0.item) (same_refusal left.refusal there.0.refusal) there.2 in
     (there.0, there.1, sym (same_is_one left.item there.0.item both.0), sym (same_refusals left.refusal there.0.refusal both.1))
 
 -- a list in order has one that is left out for each item
@@ -140,7 +142,8 @@ one_left out sorted a b in_a in_b same =
     one_at out at_b.0 a b (subst (λ p. slice_get out p ≡ Some a) place at_a.1) at_b.1
 
 pub refusal_itself : (a : Refusal) → same_refusal a a ≡ true
-refusal_itself (Own a) = both_hold (same_side a.side a.side) (same_clause a.clause a.clause) (side_itself a.side) (clause_itself a.clause)
+refusal_itself (Own a) =
+    both_hold (same_side a.side a.side) (same_clause a.clause a.clause) (side_itself a.side) (clause_itself a.clause)
 refusal_itself Cycle = refl
 refusal_itself (Unknown m) = eq-eqb m m refl
 refusal_itself (Dependency m) = eq-eqb m m refl
@@ -160,7 +163,8 @@ refused_at out item place d at =
     (at.left, Contains-at out place at.left at.here, at.of, ap (λ (left : Left). left.refusal) (sym read))
 
 pub out_by : (listing : Judged) (item : Item) (r : Option Refusal)
-    → MatchOption r (¬ Contains (items_out listing.out) item) (IsLeftOutFor listing.out item) → is_some r ≡ is_out listing item
+    → MatchOption r (¬ Contains (items_out listing.out) item) (IsLeftOutFor listing.out item)
+    → is_some r ≡ is_out listing item
 out_by listing item None none =
     sym (not_so (is_out listing item) (λ e.
     let there = out_has listing item e in
@@ -174,12 +178,13 @@ none_for listing left none = sym (not_so (is_out_for listing left) (λ e.
     let there = out_for_has listing left e in
     none (subst (Contains (items_out listing.out)) there.2 (Contains-to_map (λ (l : Left). l.item) listing.out there.0 there.1))))
 
-pub for_by : (listing : Judged) → IsStrictlySortedBy item_cmp (items_out listing.out) → (left : Left) (refusal : Refusal)
+pub for_by : (listing : Judged) → IsStrictlySortedBy item_cmp (items_out listing.out)
+    → (left : Left) (refusal : Refusal)
     → IsLeftOutFor listing.out left.item refusal → same_refusal left.refusal refusal ≡ is_out_for listing left
 for_by listing sorted left refusal refused = both_ways (same_refusal left.refusal refusal) (is_out_for listing left)
-    (λ e. finds (λ other. same_item left.item other.item && same_refusal left.refusal other.refusal) listing.out refused.0 refused.1
-    (both_hold (same_item left.item refused.0.item) (same_refusal left.refusal refused.0.refusal)
-    (subst (λ i. same_item left.item i ≡ true) (sym refused.2) (item_is_itself left.item))
+    (λ e. finds (λ other. is_same_item left.item other.item && same_refusal left.refusal other.refusal) listing.out refused.0 refused.1
+    (both_hold (is_same_item left.item refused.0.item) (same_refusal left.refusal refused.0.refusal)
+    (subst (λ i. is_same_item left.item i ≡ true) (sym refused.2) (item_is_itself left.item))
     (subst (λ r. same_refusal left.refusal r ≡ true) (sym refused.3) e)))
     (λ e.
     let there = out_for_has listing left e in

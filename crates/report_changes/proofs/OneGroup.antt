@@ -6,7 +6,8 @@ use Rattle.std.specs.List.{All}
 use Rattle.std.specs.List.Sorted.{IsStrictlySortedBy}
 use Rattle.std.proofs.lemmas.Bool.{false≢true}
 use Rattle.std.proofs.lemmas.List.Elements.{All-head, All-tail}
-use Rattle.lattice_core.specs.MemberLaws.{Contains-cons_cases, Contains-first, Contains-later, Contains-none, Contains-of_filter}
+use Rattle.lattice_core.specs.MemberLaws.{Contains-cons_cases, Contains-first, Contains-later, Contains-none}
+use Rattle.lattice_core.specs.MemberLaws.{Contains-of_filter}
 use Rattle.lattice_core.specs.MemberLaws.{Contains-to_filter, Contains-of_map, Contains-to_map}
 use Rattle.state_core.specs.declared.item.Item.{Item}
 use Rattle.state_core.specs.Items.{item_cmp}
@@ -14,9 +15,10 @@ use Rattle.ready_core.specs.declared.verdicts.Left.{Left}
 use Rattle.ready_core.specs.Verdicts.{Judged, items_out}
 use Rattle.report_changes.specs.declared.lines.Line.{Line}
 use Rattle.report_changes.specs.declared.lines.Line.TheVariants.{NotReady, Ready, Out, Gone}
-use Rattle.report_changes.specs.Listing.{is_listed, is_out, is_out_for, is_ready, is_waiting, listed_of, same_item}
+use Rattle.report_changes.specs.Listing.{is_listed, is_out, is_out_for, is_ready, is_waiting, listed_of, is_same_item}
 use Rattle.report_changes.specs.Lines.{changed}
-use Rattle.report_changes.specs.Following.{Held, NamesEachOnce, Stand, StandsIn, after_line, after_lines, all_changed, empty}
+use Rattle.report_changes.specs.Following.{Held, NamesEachOnce, Stand, StandsIn, after_one_line, after_lines}
+use Rattle.report_changes.specs.Following.{all_changed, empty}
 use Rattle.report_changes.specs.Following.{nothing_listed, put}
 use Rattle.report_changes.specs.Following.{stands_out, stands_ready}
 use Rattle.report_changes.specs.Searching.{same_is_one, item_is_itself}
@@ -25,17 +27,18 @@ use Rattle.report_changes.proofs.Members.{out_for_has, out_has, ready_has, sorte
 
 after_both : (xs ys : List Line) (held : Held) → after_lines (xs ++ ys) held ≡ after_lines ys (after_lines xs held)
 after_both [] ys held = refl
-after_both (x ∷ xs) ys held = after_both xs ys (after_line x held)
+after_both (x ∷ xs) ys held = after_both xs ys (after_one_line x held)
 
 -- ---- the lines of one kind: the last one that names an item says how it stands
 
 module _ {X : Type 0} (line : X → Line) (named : X → Item) (gives : X → Option Stand)
-    (says : (x : X) (held : Held) → after_line (line x) held ≡ put (named x) (gives x) held) where
-  put_by : (b : Bool) (x : X) (held : Held) (item : Item) → same_item (named x) item ≡ b
-      → ((named x ≡ item) × (put (named x) (gives x) held item ≡ gives x)) ⊎ ((¬ (named x ≡ item)) × (put (named x) (gives x) held item ≡ held item))
+    (says : (x : X) (held : Held) → after_one_line (line x) held ≡ put (named x) (gives x) held) where
+  put_by : (b : Bool) (x : X) (held : Held) (item : Item) → is_same_item (named x) item ≡ b
+      → ((named x ≡ item) × (put (named x) (gives x) held item ≡ gives x))
+      ⊎ ((¬ (named x ≡ item)) × (put (named x) (gives x) held item ≡ held item))
   put_by true x held item e = inl (same_is_one (named x) item e, ap (λ b. cond b (gives x) (held item)) e)
   put_by false x held item e = inr (
-    λ same. false≢true (sym e ∙ subst (λ i. same_item (named x) i ≡ true) same (item_is_itself (named x))),
+    λ same. false≢true (sym e ∙ subst (λ i. is_same_item (named x) i ≡ true) same (item_is_itself (named x))),
     ap (λ b. cond b (gives x) (held item)) e,
   )
 
@@ -43,9 +46,9 @@ module _ {X : Type 0} (line : X → Line) (named : X → Item) (gives : X → Op
       → ((x : X) × Contains xs x × (named x ≡ item) × (after_lines (map line xs) held item ≡ gives x))
       ⊎ (((x : X) → Contains xs x → ¬ (named x ≡ item)) × (after_lines (map line xs) held item ≡ held item))
   section [] held item = inr (λ x c. absurd (Contains-none x c), refl)
-  section (x ∷ xs) held item = elim (section xs (after_line (line x) held) item) [
+  section (x ∷ xs) held item = elim (section xs (after_one_line (line x) held) item) [
     | inl there ↦ inl (there.0, Contains-later x xs there.0 there.1, there.2, there.3)
-    | inr not_later ↦ elim (put_by (same_item (named x) item) x held item refl) [
+    | inr not_later ↦ elim (put_by (is_same_item (named x) item) x held item refl) [
       | inl here ↦ inl (x, Contains-first x xs, here.0, not_later.1 ∙ ap (λ h. h item) (says x held) ∙ here.1)
       | inr not_here ↦ inr (
         λ y c. elim (Contains-cons_cases x xs y c) [
@@ -60,7 +63,8 @@ module _ {X : Type 0} (line : X → Line) (named : X → Item) (gives : X → Op
 -- ---- one group
 
 -- what a filter leaves out fails its test
-left_out : {X : Type 0} (p : X → Bool) (xs : List X) (x : X) → ¬ Contains (filter p xs) x → Contains xs x → ¬ (p x ≡ true)
+left_out : {X : Type 0} (p : X → Bool) (xs : List X) (x : X) → ¬ Contains (filter p xs) x → Contains xs x
+    → ¬ (p x ≡ true)
 left_out p xs x none c passes = none (Contains-to_filter p xs x c passes)
 
 fails : (b : Bool) → ¬ (not b ≡ true) → b ≡ true
@@ -252,7 +256,8 @@ follow : (before : Judged) → NamesEachOnce before → (earlier : List Judged) 
     → All NamesEachOnce (earlier ++ last ∷ []) → (held : Held) → ((item : Item) → StandsIn before item (held item))
     → (item : Item) → StandsIn (listed_of last) item (after_lines (all_changed before (earlier ++ last ∷ [])) held item)
 follow before once [] last all held stands item =
-    subst (λ lines. StandsIn (listed_of last) item (after_lines lines held item)) (sym (append-nil (changed before (listed_of last))))
+    subst (λ lines. StandsIn (listed_of last) item (after_lines lines held item))
+    (sym (append-nil (changed before (listed_of last))))
     (after_changed before (listed_of last) once item held (stands item))
 follow before once (verdicts ∷ later) last all held stands item =
     let next : NamesEachOnce (listed_of verdicts) = listed_once verdicts (All-head NamesEachOnce verdicts (later ++ last ∷ []) all) in
@@ -269,4 +274,5 @@ nothing_once = record { apart = λ item c. absurd (Contains-none item c); in_ord
 pub all_groups : (earlier : List Judged) (last : Judged) → All NamesEachOnce (earlier ++ last ∷ []) → (item : Item)
     → StandsIn (listed_of last) item (after_lines (all_changed empty (earlier ++ last ∷ [])) nothing_listed item)
 all_groups earlier last all =
-    follow empty nothing_once earlier last all nothing_listed (λ item. (λ c. Contains-none item c, λ c. Contains-none item c))
+    follow empty nothing_once earlier last all nothing_listed
+    (λ item. (λ c. Contains-none item c, λ c. Contains-none item c))

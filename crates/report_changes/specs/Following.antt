@@ -7,7 +7,7 @@ use Rattle.ready_core.specs.declared.verdicts.Refusal.{Refusal}
 use Rattle.ready_core.specs.Verdicts.{Judged, items_out}
 use Rattle.report_changes.specs.declared.lines.Line.{Line}
 use Rattle.report_changes.specs.declared.lines.Line.TheVariants.{NotReady, Ready, Out, Gone}
-use Rattle.report_changes.specs.Listing.{listed_of, same_item, IsLeftOutFor}
+use Rattle.report_changes.specs.Listing.{listed_of, is_same_item, IsLeftOutFor}
 use Rattle.report_changes.specs.Lines.{changed}
 
 -- the verdict on a listed item
@@ -24,19 +24,19 @@ nothing_listed item = None
 
 -- one item has this verdict from now on
 abbrev pub put : Item → Option Stand → Held → Held
-put item stand held other = if same_item item other then stand else held other
+put item stand held other = if is_same_item item other then stand else held other
 
 -- ---- what a line says to its reader
 
-abbrev pub after_line : Line → Held → Held
-after_line (NotReady item) held = put item None held
-after_line (Ready item) held = put item (Some stands_ready) held
-after_line (Out left) held = put left.item (Some (stands_out left.refusal)) held
-after_line (Gone item) held = put item None held
+abbrev pub after_one_line : Line → Held → Held
+after_one_line (NotReady item) held = put item None held
+after_one_line (Ready item) held = put item (Some stands_ready) held
+after_one_line (Out left) held = put left.item (Some (stands_out left.refusal)) held
+after_one_line (Gone item) held = put item None held
 
 abbrev pub after_lines : List Line → Held → Held
 after_lines [] held = held
-after_lines (line ∷ lines) held = after_lines lines (after_line line held)
+after_lines (line ∷ lines) held = after_lines lines (after_one_line line held)
 
 -- ---- the groups of what is listed of these verdicts in turn, after what was listed before
 

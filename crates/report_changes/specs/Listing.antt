@@ -21,8 +21,8 @@ listed_of verdicts = record { ready = verdicts.ready; out = filter is_waiting ve
 
 -- ---- whether two are one
 
-abbrev pub same_item : Item → Item → Bool
-same_item a b = (a.change == b.change) && (a.set == b.set)
+abbrev pub is_same_item : Item → Item → Bool
+is_same_item a b = (a.change == b.change) && (a.set == b.set)
 
 abbrev pub same_side : Side → Side → Bool
 same_side Require Require = true
@@ -47,14 +47,14 @@ same_refusal a b = false
 -- ---- what is listed
 
 abbrev pub is_ready : Judged → Item → Bool
-is_ready listing item = list_any (same_item item) listing.ready
+is_ready listing item = list_any (is_same_item item) listing.ready
 
 abbrev pub is_out : Judged → Item → Bool
-is_out listing item = list_any (λ left. same_item item left.item) listing.out
+is_out listing item = list_any (λ left. is_same_item item left.item) listing.out
 
 abbrev pub is_out_for : Judged → Left → Bool
 is_out_for listing left =
-    list_any (λ other. same_item left.item other.item && same_refusal left.refusal other.refusal) listing.out
+    list_any (λ other. is_same_item left.item other.item && same_refusal left.refusal other.refusal) listing.out
 
 abbrev pub is_listed : Judged → Item → Bool
 is_listed listing item = is_ready listing item || is_out listing item

@@ -7,7 +7,7 @@ ghost use Rattle.state_core.specs.declared.item.Item.{Item};
 ghost use Rattle.state_core.specs.Items.{item_cmp};
 ghost use Rattle.ready_core.specs.Verdicts.{items_out};
 ghost use Rattle.report_changes.specs.Listing.{IsLeftOutFor, is_listed, is_out_for, is_ready, is_waiting, listed_of};
-ghost use Rattle.report_changes.specs.Listing.{same_item, same_refusal};
+ghost use Rattle.report_changes.specs.Listing.{is_same_item, same_refusal};
 
 use super::over::is_over;
 use ready_core::{Left, Refusal, Verdicts, place_out};
@@ -132,7 +132,7 @@ fn is_same(a: Refusal, b: Refusal) -> bool
 /// Whether an item is among some in order.
 fn has_item(ordered: &[Item], item: Item) -> bool
     requires { IsSorted item_cmp ordered.now }
-    ensures { result ≡ list_any (same_item item) ordered.now }
+    ensures { result ≡ list_any (is_same_item item) ordered.now }
 {
     ordered.binary_search(&item).is_ok()
 }

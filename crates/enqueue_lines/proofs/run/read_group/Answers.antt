@@ -1,10 +1,11 @@
 use Rattle.std.proofs.Common.{◌≡◌, ◌≤◌, ◌∙◌, ◌++◌, [], Ok, Result, ap, arith, length, refl, subst}
 use Rattle.std.proofs.KnownBytes.{Consumes-nil, Consumes-trans}
-use Rattle.enqueue_lines.specs.Ending.{BreaksGroup, next_number}
+use Rattle.enqueue_lines.specs.Ending.{BreaksGroup, number_after}
 use Rattle.enqueue_lines.specs.Running.{counted_on, most_lines}
 use Rattle.enqueue_lines.specs.declared.fault.EnqueueFault.{EnqueueFault}
 use Rattle.enqueue_lines.specs.declared.run.Step.{Step}
-use Rattle.enqueue_lines.proofs.Stream.{group_begins, group_breaks, group_ends, group_goes, group_is_endless, group_stops}
+use Rattle.enqueue_lines.proofs.Stream.{group_begins, group_breaks, group_ends, group_goes, group_is_endless}
+use Rattle.enqueue_lines.proofs.Stream.{group_stops}
 use Rattle.enqueue_lines.proofs.run.read_group.Goals as goal
 
 pub loop-line-init : goal.loop-line-init
@@ -68,11 +69,12 @@ pub returns-in-Err-clause-comes : goal.returns-in-Err-clause-comes
 returns-in-Err-clause-comes g c =
     let so = c.loop-line.invariant in
     let moves = c.in-Err.ensures.moves in
-    let number : c.saturating_add-number.result ≡ next_number (counted_on c.args.before c.loop-line.coming.count) = omega arith in
+    let number : c.saturating_add-number.result ≡ number_after (counted_on c.args.before c.loop-line.coming.count) = omega arith in
     let bytes = c.args.reader.now.held ++ (so.came ++ moves.0) in
     let breaks = group_breaks c.args.reader.now.held so.came moves.0 c.loop-line.reader.held c.read_on.new.reader.held
     c.loop-line.coming.lines.items c.read_on.new.coming.lines.items c.loop-line.coming.count c.read_on.new.coming.count so.comes
-    c.loop-line.reader.limit c.args.before c.saturating_add-number.result (g.S.Source.failed c.loop-line.source) (g.S.Source.failed c.read_on.new.source)
+    c.loop-line.reader.limit c.args.before c.saturating_add-number.result (g.S.Source.failed c.loop-line.source)
+    (g.S.Source.failed c.read_on.new.source)
     c.in-Err.fault number moves.2 in
     let limited = subst (λ l. BreaksGroup l bytes c.args.before (g.S.Source.failed c.loop-line.source) (g.S.Source.failed c.read_on.new.source) c.in-Err.fault) so.limit breaks in
     let since = subst (λ n. BreaksGroup c.args.reader.now.limit bytes c.args.before n (g.S.Source.failed c.read_on.new.source) c.in-Err.fault) so.none_unread limited in

@@ -2,7 +2,7 @@ use Rattle.std.proofs.Common.{lit<, map, subst}
 use Rattle.std.proofs.lemmas.Iterator.Consumers.{YieldsList-end}
 use Rattle.std.proofs.lemmas.Iterator.Splits.{YieldsList-from_str_split}
 use Rattle.std.proofs.lemmas.List.{map-append}
-use Rattle.gate_check.specs.Gained.{Gains}
+use Rattle.gate_check.specs.Gained.{GainsTexts}
 use Rattle.gate_check.specs.Ignored.{LineMisses}
 use Rattle.gate_check.specs.Unused.{SomeIs}
 use Rattle.gate_check.proofs.Missed.{gains_more, gains_none}
@@ -20,4 +20,4 @@ pub returns : goal.returns
 returns c =
     let yields = YieldsList-from_str_split {s = c.into_iter-line-iterator.result} 10 c.args.message.now (lit< tt) (cc) (cc) (cc) in
     let whole = YieldsList-end yields c.loop-line.yielded _ c.loop-line.yielded_by _ _ c.in-None.is c.next.ensures.steps in
-    subst (λ lines. Gains c.args.values.now (λ value. SomeIs (LineMisses c.args.bases.now value) lines) c.loop-line.values) whole.0 c.loop-line.invariant
+    subst (λ lines. GainsTexts c.args.values.now (λ value. SomeIs (LineMisses c.args.bases.now value) lines) c.loop-line.values) whole.0 c.loop-line.invariant

@@ -1,5 +1,5 @@
 use Rattle.std.proofs.Common.{◌<◌, ◌≤◌, arith, get_or, length, subst}
-use Rattle.page_text.specs.Reached.{AddsAll, NamesFrom}
+use Rattle.page_text.specs.Reached.{AddsNumbers, NamesFrom}
 use Rattle.page_text.proofs.ReachedSteps.{begun, step, whole}
 use Rattle.page_text.proofs.reached.reached_from.Goals as goal
 
@@ -29,7 +29,7 @@ loop-at-preserved c =
     step gate state c.args.item c.loop-at.at 0 c.loop-at.changes.items c.add_names.new.changes.items
     (subst (λ l. c.loop-at.at < length l) same c.if-found-at.false)
     c.loop-at.invariant
-    (subst (λ l. AddsAll (NamesFrom gate state c.args.item (get_or l c.loop-at.at 0)) c.loop-at.changes.items
+    (subst (λ l. AddsNumbers (NamesFrom gate state c.args.item (get_or l c.loop-at.at 0)) c.loop-at.changes.items
     c.add_names.new.changes.items) same c.in_ok-add_names.ensures)
 
 pub returns : goal.returns

@@ -1,10 +1,10 @@
 use Rattle.std.proofs.Common.{◌≡◌, []}
-use Rattle.query_plan.specs.Running.{AreAnswered}
+use Rattle.query_plan.specs.Running.{AreLinesAnswered}
 use Rattle.query_plan.proofs.run.plan_queries.Given as goal
 
 -- so many lines were answered
 abbrev pub invariant-loop-number : goal.invariant-loop-number
-invariant-loop-number g l = (l.reader.limit ≡ 4096) × AreAnswered 4096 l.number
+invariant-loop-number g l = (l.reader.limit ≡ 4096) × AreLinesAnswered 4096 l.number
     (record {
       plan = l.initial.plan;
       held = [];
