@@ -160,7 +160,7 @@ impl<'a, R: Wait + Clock> Session<'a, R> {
     /// Asks for a round, and reads it.
     fn read_round(&mut self) -> Result<Missing, IntakeFault> {
         match send_front(self.alloc, LINE_LIMIT, &mut self.drain, &self.front) {
-            Ok(()) => {}
+            Ok(_line) => {}
             // No pull can name where the record ends.
             Err(LineFault::LongLine) => return Err(IntakeFault::NoEnd),
             Err(fault) => return Err(line_fault(fault)),

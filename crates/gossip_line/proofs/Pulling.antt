@@ -2,7 +2,8 @@
 use Rattle.std.proofs.Common.{◌≡◌, ◌⊎◌, ◌*◌, ◌+◌, ◌<◌, ◌≤◌, ℕ, Bool, true, false, List, [], ◌∷◌, ◌++◌, Option}
 use Rattle.std.proofs.Common.{Ok, Err, length, refl, sym, ap, ◌∙◌, subst, inl, inr, append_assoc, append-nil, arith}
 use Rattle.std.proofs.Common.{length-append}
-use Rattle.std.specs.Prelude.{codes, flat_map, not, sum_by}
+use Rattle.std.proofs.Common.{Global}
+use Rattle.std.specs.Prelude.{◌≢◌, ◌↔◌, IsTrue, String, codes, flat_map, string_bytes, sum_by}
 use Rattle.std.specs.Io.KnownBytes.{Appends, Consumes}
 use Rattle.std.proofs.KnownBytes.{Appends-trans, Consumes-trans}
 use Rattle.byte_ends.specs.Lines.{as_line}
@@ -10,10 +11,10 @@ use Rattle.site_port.specs.Sinks.{Offer, Uptake, declined, fronts, hands, reache
 use Rattle.gossip_line.proofs.OneAnswer.{counts_broken}
 use Rattle.gossip_line.proofs.Talking.{All-push, flat_map-push}
 use Rattle.gossip_line.specs.Answers.{AnswerIsCutShort, IsWritten, Sends}
-use Rattle.gossip_line.specs.Pull.{CountsEnds, CountsReading, EndWith, Fails, GoOn, Greets, IsUnquit}
+use Rattle.gossip_line.specs.Pull.{AreAll, AskAnew, CountsEnds, CountsReading, EndWith, Fails, GoOn, Greets, IsUnquit}
 use Rattle.gossip_line.specs.Pull.{BreaksPull, IsDeclined, IsPull, IsWholeRound, Leaves, OperationLine, PullsRound}
 use Rattle.gossip_line.specs.Pull.{PullsWell, ReadsAnswer, Round, SendsFront, Takes, TakesAll, answer_in, fault_of}
-use Rattle.gossip_line.specs.Pull.{front_line}
+use Rattle.gossip_line.specs.Pull.{front_line, last_asked}
 use Rattle.gossip_line.specs.Session.{Moment}
 use Rattle.gossip_line.specs.Texts.{hello}
 use Rattle.gossip_line.specs.declared.fault.LineFault.{LineFault}
@@ -46,6 +47,19 @@ report_with (first ∷ next ∷ rounds) round more others is =
 end_with : (rounds : List Round) (more : Bool) → 0 < length rounds → Report rounds more → EndWith rounds more
 end_with [] more some report = absurd (omega arith)
 end_with (round ∷ rounds) more some report = report
+
+-- a round more asks anew if its line is another than the last one
+anew_with : (rounds : List Round) (round : Round) → AskAnew rounds
+    → (front_line round.front ≢ last_asked rounds) → AskAnew (rounds ++ round ∷ [])
+anew_with [] round anew other = tt
+anew_with (first ∷ []) round anew other = (other, tt)
+anew_with (first ∷ next ∷ rounds) round anew other = (anew.0, anew_with (next ∷ rounds) round anew.1 other)
+
+-- its line is the last one
+asked_with : (rounds : List Round) (round : Round) → last_asked (rounds ++ round ∷ []) ≡ front_line round.front
+asked_with [] round = refl
+asked_with (first ∷ []) round = refl
+asked_with (first ∷ next ∷ rounds) round = asked_with (next ∷ rounds) round
 
 -- if more was left after all rounds, each of them reported that
 go_on : (rounds : List Round) → Report rounds true → GoOn rounds
@@ -132,17 +146,18 @@ module _ {K : Type 0} (sinks : K → Offer → Uptake → K → Type 0) where
     pub leaves : Leaves sinks limit mid held fault after
     pub counts : CountsEnds mid.unread after.unread mid.unwritten after.unwritten fault
 
-  pub front_failed : (limit : ℕ) (mid after : Moment K) (held : List ℕ) (front : Reaches) (fault : LineFault)
-      → SendsFront limit front mid.taken after.taken mid.unwritten after.unwritten (Err fault)
+  pub front_failed : (T : Type 0) (limit : ℕ) (mid after : Moment K) (held : List ℕ) (front : Reaches)
+      (fault : LineFault)
+      → SendsFront {T = T} limit front mid.taken after.taken mid.unwritten after.unwritten (Err fault)
       → after.unread ≡ mid.unread → after.left ≡ mid.left → sinks mid.port fronts (reached front) after.port
       → IsRoundFailed limit mid held fault after
-  front_failed limit mid after held front line.WriteFault h same unread says =
+  front_failed T limit mid after held front line.WriteFault h same unread says =
       record { leaves = (front, says, unread, h); counts = (same, h.one_failed) }
-  front_failed limit mid after held front line.NoMemory h same unread says =
+  front_failed T limit mid after held front line.NoMemory h same unread says =
       record { leaves = inl (front, says, h.0); counts = (same, h.1) }
-  front_failed limit mid after held front line.LongLine h same unread says =
+  front_failed T limit mid after held front line.LongLine h same unread says =
       record { leaves = inl (front, says, h.0, h.1, unread); counts = (same, h.2) }
-  front_failed limit mid after held front fault h same unread says = absurd h
+  front_failed T limit mid after held front fault h same unread says = absurd h
 
   pub declined_failed : (limit : ℕ) (mid after : Moment K) (held : List ℕ) (why : SinkFault) (fault : LineFault)
       → fault ≡ fault_of why → IsDeclined sinks limit mid held why after
@@ -180,10 +195,11 @@ module _ {K : Type 0} (sinks : K → Offer → Uptake → K → Type 0) where
     the_round = record { front = front; lines = is.0; last = is.1; more = missing.more }
 
     -- and whose operations the sink takes
-    pub handed_over : (count : ℕ) → count ≡ length missing.ops.items
-        → sinks late (hands missing.ops.items) took after.port
-        → PullsRound sinks old.limit mid old.held (Ok (record { count = count; more = missing.more })) after new.held
-    handed_over count all taken = (
+    pub handed_over : (line : String Global) (count : ℕ) → string_bytes line ≡ front_line front
+        → count ≡ length missing.ops.items → sinks late (hands missing.ops.items) took after.port
+        → PullsRound sinks old.limit mid old.held
+        (Ok (record { asked = line; count = count; more = missing.more })) after new.held
+    handed_over line count line_is all taken = (
       the_round,
       came,
       is.2,
@@ -194,6 +210,7 @@ module _ {K : Type 0} (sinks : K → Offer → Uptake → K → Type 0) where
       counted,
       omega (arith, all, ap length is.3, length-map is.0 (λ (l : OperationLine). l.op)),
       refl,
+      line_is,
     )
 
     -- or declines them
@@ -279,41 +296,92 @@ module _ {K : Type 0} {sinks : K → Offer → Uptake → K → Type 0} {limit :
         few = omega (arith, so_far.few, whole.few, h.8);
       }
 
+-- so many rounds were whole, each reported that others are left and asked anew, and this is the line of the last one
+pub record GoesAnew {K : Type 0} (sinks : K → Offer → Uptake → K → Type 0) (limit : ℕ) (before now : Moment K)
+    (number taken : ℕ) (reader : Reading) (asked : List ℕ) : Type 0 where
+  pub whole : AreWhole sinks limit before now number taken true reader
+  pub anew : AskAnew whole.rounds
+  pub asked_is : last_asked whole.rounds ≡ asked
+
+-- at first there was no round
+pub none_asked : {K : Type 0} (sinks : K → Offer → Uptake → K → Type 0) (limit : ℕ) (before now : Moment K)
+    (old new : Reading) (came asked : List ℕ) → old ≡ record { limit = limit; line = []; held = [] }
+    → new.limit ≡ old.limit → Consumes before.left now.left came
+    → Greets old came now.left before.taken now.taken before.unread now.unread before.unwritten now.unwritten (Ok tt) new
+    → now.port ≡ before.port → asked ≡ [] → GoesAnew sinks limit before now 0 0 new asked
+unfolding no_round
+none_asked sinks limit before now old new came asked fresh kept read greets same none = record {
+  whole = no_round sinks limit before now old new came fresh kept read greets same;
+  anew = tt;
+  asked_is = sym none;
+}
+
 module _ {K : Type 0} {sinks : K → Offer → Uptake → K → Type 0} {limit : ℕ} {before mid : Moment K}
-    {number taken : ℕ} {reader : Reading} where
-  -- a pull whose next round fails
-  pub fails_in_round : (most : ℕ) (after : Moment K) (fault : LineFault)
-      → AreWhole sinks limit before mid number taken true reader → number < most
-      → Leaves sinks reader.limit mid reader.held fault after
-      × CountsEnds mid.unread after.unread mid.unwritten after.unwritten fault
-      → Fails sinks limit most before after fault
-  fails_in_round most after fault so_far few h =
-      let fewer : length so_far.rounds < most = omega (arith, few, so_far.counted) in
-      let at_most : length so_far.rounds ≤ most = omega (arith, fewer) in
-      let leaves = subst (λ l. Leaves sinks l mid reader.held fault after) so_far.same_limit h.0 in (
-        counts_from before.unread mid.unread after.unread before.unwritten mid.unwritten after.unwritten fault
-            so_far.pull.none_unread so_far.pull.written.none_failed h.1,
-        inr (
-          mid,
-          so_far.greeting,
-          so_far.rounds,
-          reader.held,
-          so_far.pull,
-          at_most,
-          inl (go_on so_far.rounds so_far.report, fewer, leaves),
-        ),
-      )
+    {number taken : ℕ} {reader : Reading} {asked : List ℕ} (so_anew : GoesAnew sinks limit before mid number taken reader asked)
+  where
+    -- the round after them
+    module _ (now : Moment K) (handed : Handed) (later : Reading) (kept : later.limit ≡ reader.limit)
+        (h : PullsRound sinks reader.limit mid reader.held (Ok handed) now later.held) where
+      -- is the last one, if it reported that nothing is left or asked with the same line
+      pub with_last : AreWhole sinks limit before now (number + 1) (taken + handed.count) handed.more later
+      with_last = one_more now handed later so_anew.whole kept refl h
+
+      pub are_all : (most : ℕ) → (handed.more ≡ false) ⊎ (string_bytes handed.asked ≡ asked)
+          → AreAll most with_last.rounds handed.more
+      unfolding with_last one_more
+      are_all most why = inl (record {
+        before = so_anew.whole.rounds;
+        final = h.0;
+        are = refl;
+        anew = so_anew.anew;
+        why = elim why as (λ _. (handed.more ≡ false) ⊎ (front_line h.0.front ≡ last_asked so_anew.whole.rounds))
+            [ inl e ↦ inl e | inr e ↦ inr (sym h.10 ∙ e ∙ sym so_anew.asked_is) ];
+      })
+
+      -- or the pull goes on
+      pub goes_anew : handed.more ≡ true → (string_bytes handed.asked ≢ asked)
+          → GoesAnew sinks limit before now (number + 1) (taken + handed.count) later (string_bytes handed.asked)
+      unfolding one_more
+      goes_anew more other = record {
+        whole = one_more now handed later so_anew.whole kept more h;
+        anew = anew_with so_anew.whole.rounds h.0 so_anew.anew
+            (λ e. other (h.10 ∙ e ∙ so_anew.asked_is));
+        asked_is = asked_with so_anew.whole.rounds h.0 ∙ sym h.10;
+      }
+
+    -- a pull whose next round fails
+    pub fails_in_round : (most : ℕ) (after : Moment K) (fault : LineFault) → number < most
+        → Leaves sinks reader.limit mid reader.held fault after
+        × CountsEnds mid.unread after.unread mid.unwritten after.unwritten fault
+        → Fails sinks limit most before after fault
+    fails_in_round most after fault few h =
+        let so_far = so_anew.whole in
+        let fewer : length so_far.rounds < most = omega (arith, few, so_far.counted) in
+        let at_most : length so_far.rounds ≤ most = omega (arith, fewer) in
+        let leaves = subst (λ l. Leaves sinks l mid reader.held fault after) so_far.same_limit h.0 in (
+          counts_from before.unread mid.unread after.unread before.unwritten mid.unwritten after.unwritten fault
+              so_far.pull.none_unread so_far.pull.written.none_failed h.1,
+          inr (
+            mid,
+            so_far.greeting,
+            so_far.rounds,
+            reader.held,
+            so_far.pull,
+            at_most,
+            inl (go_on so_far.rounds so_far.report, so_anew.anew, fewer, leaves),
+          ),
+        )
 
 module _ {K : Type 0} {sinks : K → Offer → Uptake → K → Type 0} {limit : ℕ} {before mid : Moment K}
     {number taken : ℕ} {more : Bool} {reader : Reading} where
   -- a pull that can't write `quit` after its whole rounds
   pub fails_at_quit : (most : ℕ) (after : Moment K) (fault : LineFault)
-      → AreWhole sinks limit before mid number taken more reader → 0 < number → number ≤ most
-      → (more ≡ false) ⊎ (number ≡ most)
+      (so_far : AreWhole sinks limit before mid number taken more reader) → 0 < number → number ≤ most
+      → AreAll most so_far.rounds more
       → Sends {T = Unit {0}} (codes "quit\n") (Ok tt) mid.taken after.taken mid.unwritten after.unwritten (Err fault)
       → (after.port ≡ mid.port) × (after.left ≡ mid.left) × (after.unread ≡ mid.unread)
       → Fails sinks limit most before after fault
-  fails_at_quit most after fault so_far some few last unsent same =
+  fails_at_quit most after fault so_far some few all unsent same =
       let failed = not_sent (codes "quit\n") mid.taken after.taken mid.unwritten after.unwritten fault unsent in
       let at_most : length so_far.rounds ≤ most = omega (arith, few, so_far.counted) in
       let counts = subst (λ f. CountsEnds mid.unread after.unread mid.unwritten after.unwritten f) (sym failed.0)
@@ -324,8 +392,7 @@ module _ {K : Type 0} {sinks : K → Offer → Uptake → K → Type 0} {limit :
         same = (same.0, same.1);
         more = more;
         ends = end_with so_far.rounds more (omega (arith, some, so_far.counted)) so_far.report;
-        last = elim last as (λ h. (more ≡ false) ⊎ (length so_far.rounds ≡ most))
-            [ inl e ↦ inl e | inr e ↦ inr (omega (arith, e, so_far.counted)) ];
+        all = all;
       } in (
         counts_from before.unread mid.unread after.unread before.unwritten mid.unwritten after.unwritten fault
             so_far.pull.none_unread so_far.pull.written.none_failed counts,
@@ -333,12 +400,13 @@ module _ {K : Type 0} {sinks : K → Offer → Uptake → K → Type 0} {limit :
       )
 
   -- a pull that ends well after so many whole rounds
-  pub ends_well : (most rounds : ℕ) (after : Moment K) → AreWhole sinks limit before mid number taken more reader
-      → rounds ≡ number → 0 < rounds → rounds ≤ most → (more ≡ false) ⊎ (rounds ≡ most)
+  pub ends_well : (most rounds : ℕ) (after : Moment K)
+      (so_far : AreWhole sinks limit before mid number taken more reader)
+      → rounds ≡ number → 0 < rounds → rounds ≤ most → AreAll most so_far.rounds more
       → IsWritten (codes "quit\n") mid.taken after.taken mid.unwritten after.unwritten
       → (after.port ≡ mid.port) × (after.left ≡ mid.left) × (after.unread ≡ mid.unread)
       → PullsWell sinks limit most before after (record { rounds = rounds; taken = taken; more = more })
-  ends_well most rounds after so_far is some few last quit same = record {
+  ends_well most rounds after so_far is some few all quit same = record {
     mid = mid;
     greeting = so_far.greeting;
     rounds = so_far.rounds;
@@ -350,15 +418,19 @@ module _ {K : Type 0} {sinks : K → Offer → Uptake → K → Type 0} {limit :
     few = omega (arith, is, few, so_far.counted);
     summed = so_far.summed;
     ends = end_with so_far.rounds more (omega (arith, is, some, so_far.counted)) so_far.report;
-    last = elim last as (λ h. (more ≡ false) ⊎ (length so_far.rounds ≡ most))
-        [ inl e ↦ inl e | inr e ↦ inr (omega (arith, e, is, so_far.counted)) ];
+    all = all;
   }
 
--- what a negated test says
-pub not_true : (test : Bool) → not test ≡ true → test ≡ false
-not_true true e = cc
-not_true false e = refl
+-- whether a round is the last one, by the line of the round before as a text has it
+pub last_by : {line text : List ℕ} (last more : Bool) (asked : List ℕ) → text ≡ line
+    → IsTrue last ↔ ((more ≡ false) ⊎ (asked ≡ text)) → IsTrue last ↔ ((more ≡ false) ⊎ (asked ≡ line))
+last_by last more asked same is = subst (λ l. IsTrue last ↔ ((more ≡ false) ⊎ (asked ≡ l))) same is
 
-pub not_false : (test : Bool) → not test ≡ false → test ≡ true
-not_false true e = refl
-not_false false e = cc
+-- a round that isn't the last reported that others are left, and asked with another line
+pub goes_with_more : {Same : Type 0} (last more : Bool) → IsTrue last ↔ ((more ≡ false) ⊎ Same) → last ≡ false
+    → more ≡ true
+goes_with_more last true is e = refl
+goes_with_more last false is e = let yes = is.1 (inl refl) in cc
+
+pub goes_on_with : {Same : Type 0} (last more : Bool) → IsTrue last ↔ ((more ≡ false) ⊎ Same) → last ≡ false → ¬ Same
+goes_on_with last more is e = λ same. let yes = is.1 (inr same) in cc

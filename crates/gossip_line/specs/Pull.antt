@@ -1,6 +1,6 @@
 -- A pull: in each round the sink's front is written, a whole answer is read, and its operations are handed to the sink.
 use Rattle.std.specs.Prelude.{◌≡◌, ◌≢◌, ◌⊎◌, ◌≤◌, ◌<◌, ◌+◌, ℕ, Bool, true, false, List, [], ◌∷◌, ◌++◌, Option, Result, Ok}
-use Rattle.std.specs.Prelude.{Err, codes, flat_map, length, map, sum_by, take, if◌then◌else◌}
+use Rattle.std.specs.Prelude.{Err, codes, flat_map, length, map, string_bytes, sum_by, take, if◌then◌else◌}
 use Rattle.std.specs.List.{AllByRecursion}
 use Rattle.std.specs.Io.KnownBytes.{Appends, Consumes, IsAtEnd}
 use Rattle.byte_ends.specs.Failures.{OneFailed}
@@ -84,6 +84,32 @@ EndWith (round ∷ next ∷ rounds) more = (round.more ≡ true) × EndWith (nex
 -- each of the rounds reported that others are left
 abbrev pub GoOn : List Round → Type 0
 GoOn rounds = AllByRecursion (λ round. round.more ≡ true) rounds
+
+-- the line of the front in the last of the rounds, if there is one
+abbrev pub last_asked : List Round → List ℕ
+last_asked [] = []
+last_asked (round ∷ []) = front_line round.front
+last_asked (round ∷ next ∷ rounds) = last_asked (next ∷ rounds)
+
+-- each of the rounds asked with another front than the one before it
+abbrev pub AskAnew : List Round → Type 0
+AskAnew [] = Unit {0}
+AskAnew (round ∷ []) = Unit {0}
+AskAnew (round ∷ next ∷ rounds) = (front_line next.front ≢ front_line round.front) × AskAnew (next ∷ rounds)
+
+-- all but the last of the rounds asked anew, and the last one reported that nothing is left, or asked with the same front
+-- as the one before it
+pub record EndWithoutNews (rounds : List Round) (more : Bool) : Type 0 where
+  pub before : List Round
+  pub final : Round
+  pub are : rounds ≡ before ++ final ∷ []
+  pub anew : AskAnew before
+  pub why : (more ≡ false) ⊎ (front_line final.front ≡ last_asked before)
+
+-- the rounds after which a pull ends: the last one brought nothing that calls for another; or all of them asked anew, and
+-- they are as many as may be
+abbrev pub AreAll : ℕ → List Round → Bool → Type 0
+AreAll most rounds more = EndWithoutNews rounds more ⊎ (AskAnew rounds × (length rounds ≡ most))
 
 -- how a fault is counted, of reads and of writes: each of the two by its own fault alone
 abbrev pub CountsEnds : (unread reads unwritten writes : ℕ) → LineFault → Type 0
@@ -171,7 +197,8 @@ abbrev pub IsOverlong : ℕ → Reaches → Type 0
 IsOverlong limit front = limit + 1 < length (front_line front)
 
 -- the front's line is written; or it is too long, or memory is refused for it, before its first byte
-abbrev pub SendsFront : ℕ → Reaches → Option (List ℕ) → Option (List ℕ) → ℕ → ℕ → Result (Unit {0}) LineFault → Type 0
+abbrev pub SendsFront : {T : Type 0} → ℕ → Reaches → Option (List ℕ) → Option (List ℕ) → ℕ → ℕ → Result T LineFault
+    → Type 0
 SendsFront limit front taken later failed failures (Ok done) = IsWritten (front_line front) taken later failed failures
 SendsFront limit front taken later failed failures (Err WriteFault) =
     AnswerIsCutShort (front_line front) taken later failed failures
@@ -285,11 +312,11 @@ module _ {K : Type 0} (sinks : K → Offer → Uptake → K → Type 0) where
       × IsWritten (front_line round.front) mid.taken after.taken mid.unwritten after.unwritten
       × (after.unread ≡ mid.unread)
       × (handed.count ≡ length round.lines) × (handed.more ≡ round.more)
+      × (string_bytes handed.asked ≡ front_line round.front)
   PullsRound limit mid held (Err fault) after later =
       Leaves limit mid held fault after × CountsEnds mid.unread after.unread mid.unwritten after.unwritten fault
 
-  -- a pull that ends well has written `quit` after the last round, which reported that nothing is left, or was the last
-  -- that may be
+  -- a pull that ends well has written `quit` after the last round
   pub record PullsWell (limit most : ℕ) (before after : Moment K) (pulled : Pulled) : Type 0 where
     pub mid : Moment K
     pub greeting : List ℕ
@@ -302,23 +329,22 @@ module _ {K : Type 0} (sinks : K → Offer → Uptake → K → Type 0) where
     pub few : length rounds ≤ most
     pub summed : pulled.taken ≡ sum_by (λ round. length round.lines) rounds
     pub ends : EndWith rounds pulled.more
-    pub last : (pulled.more ≡ false) ⊎ (length rounds ≡ most)
+    pub all : AreAll most rounds pulled.more
 
-  -- after the last round, which reported that nothing is left, or was the last that may be, a proper prefix of `quit` was
-  -- written, and then a write failed
+  -- after the last round a proper prefix of `quit` was written, and then a write failed
   pub record IsUnquit (most : ℕ) (mid : Moment K) (rounds : List Round) (fault : LineFault) (after : Moment K) : Type 0 where
     pub fault_is : fault ≡ WriteFault
     pub cut : AnswerIsCutShort (codes "quit\n") mid.taken after.taken mid.unwritten after.unwritten
     pub same : (after.port ≡ mid.port) × (after.left ≡ mid.left)
     pub more : Bool
     pub ends : EndWith rounds more
-    pub last : (more ≡ false) ⊎ (length rounds ≡ most)
+    pub all : AreAll most rounds more
 
-  -- how a pull fails after its whole rounds: in the next one, if each of them reported that others are left, or at
-  -- `quit`
+  -- how a pull fails after its whole rounds: in the next one, if each of them reported that others are left and asked
+  -- anew, or at `quit`
   abbrev pub Stops : ℕ → ℕ → Moment K → List Round → List ℕ → LineFault → Moment K → Type 0
   Stops limit most mid rounds held fault after =
-      (GoOn rounds × (length rounds < most) × Leaves limit mid held fault after)
+      (GoOn rounds × AskAnew rounds × (length rounds < most) × Leaves limit mid held fault after)
       ⊎ IsUnquit most mid rounds fault after
 
   -- a pull that fails has handed over the operations of the whole answers before, and nothing more

@@ -1,7 +1,7 @@
 //! Runs a pull.
 
 ghost use Rattle.std.specs.Prelude.{Bool, ◌≡◌, ◌++◌, ◌+◌, ◌<◌, ◌≤◌, ℕ, List, IfErr, IfNone, IfOk, IfSome, MatchOption};
-ghost use Rattle.std.specs.Prelude.{MatchResult, Ok, OnOk, length, ◌∷◌, [], ◌≢◌, Err};
+ghost use Rattle.std.specs.Prelude.{MatchResult, Ok, OnOk, length, ◌∷◌, [], ◌≢◌, Err, IsTrue, ◌↔◌, ◌⊎◌, false};
 ghost use Rattle.op_text.specs.Spelling.{SpellsOperation};
 ghost use Rattle.review_ops.specs.Operation.{Operation};
 ghost use Rattle.std.specs.Io.KnownBytes.{Consumes, IsAtEnd};
@@ -41,22 +41,25 @@ pub struct Pulled {
     pub more: bool,
 }
 
-/// What a round handed over.
-#[derive(Clone, Copy, Debug, PartialEq, Eq)]
+/// What a round asked with, and what it handed over.
+#[derive(Debug, Drop)]
 pub struct Handed {
+    /// The line of the sink's front.
+    pub asked: String,
     pub count: usize,
     pub more: bool,
 }
 
 /// Takes from a session what the sink lacks, in rounds: the sink's front is written, an answer is read, and once it is
-/// whole its operations are handed over, in their order. After an answer that says that nothing is left, or after 4,096
-/// rounds, `quit` is written and nothing more is read. Refusals: 1 `LongLine`, a line of the answer or that of the
-/// sink's front has more than 524,288 bytes; 2 `BadVersion`, the first line names another version; 3 `ReadFault`, the
-/// source failed; 4 `WriteFault`, the drain failed; 5 `NoMemory`, memory was refused, here or in the sink; 6
-/// `BadAnswer`, a line can't be part of an answer, an operation is invalid, a 257th one came, or the input ended where
-/// a line is awaited; 7 `Closed`, the sink has ended; 11 `NotListed` and 12 `FarAhead`, a guarded sink was handed an
-/// operation that it doesn't let in. Of an answer that isn't whole nothing is handed over. It costs what the sink
-/// costs, and O(n) for n bytes that are read and written.
+/// whole its operations are handed over, in their order. After an answer that says that nothing is left, after the
+/// second answer to the same front, since a third would be the same, or after 4,096 rounds, `quit` is written and
+/// nothing more is read. Refusals: 1 `LongLine`, a line of the answer or that of the sink's front has more than 524,288
+/// bytes; 2 `BadVersion`, the first line names another version; 3 `ReadFault`, the source failed; 4 `WriteFault`, the
+/// drain failed; 5 `NoMemory`, memory was refused, here or in the sink; 6 `BadAnswer`, a line can't be part of an
+/// answer, an operation is invalid, a 257th one came, or the input ended where a line is awaited; 7 `Closed`, the sink
+/// has ended; 11 `NotListed` and 12 `FarAhead`, a guarded sink was handed an operation that it doesn't let in. Of an
+/// answer that isn't whole nothing is handed over. It costs what the sink costs, and O(n) for n bytes that are read and
+/// written.
 pub fn pull_run<S: Source, D: Drain, K: Sink>(
     alloc: Global,
     source: &mut S,
@@ -91,18 +94,20 @@ pub fn pull_rounds<S: Source, D: Drain, K: Sink>(
         return Err(LineFault::NoMemory);
     };
     greet(&mut reader, source, drain)?;
+    let mut asked = String::new(alloc);
     let mut taken: u64 = 0;
     for round in 0..most {
         let handed = pull_round(alloc, limit, &mut reader, source, drain, sink)?;
         taken += handed.count as u64;
-        if !handed.more {
+        if is_last(&handed, asked.as_str()) {
             send(drain, "quit\n")?;
             return Ok(Pulled {
                 rounds: round + 1,
                 taken,
-                more: false,
+                more: handed.more,
             });
         }
+        asked = handed.asked;
     }
     send(drain, "quit\n")?;
     Ok(Pulled {
@@ -110,6 +115,14 @@ pub fn pull_rounds<S: Source, D: Drain, K: Sink>(
         taken,
         more: true,
     })
+}
+
+/// Whether a pull ends with a round, where the one before asked with this line: nothing is left, or this one asked with
+/// the same.
+fn is_last(handed: &Handed, asked: &str) -> bool
+    ensures { IsTrue result ↔ ((handed.now.more ≡ false) ⊎ (string_bytes handed.now.asked ≡ asked.now)) }
+{
+    !handed.more || handed.asked.as_str() == asked
 }
 
 /// Begins a session: sends the version, and awaits that the other side sends it back. Refusals: 1 `LongLine`, its line
@@ -158,11 +171,11 @@ fn pull_round<S: Source, D: Drain, K: Sink>(
         Ok(front) => front,
         Err(fault) => return Err(declined(fault)),
     };
-    send_front(alloc, limit, drain, &front)?;
+    let asked = send_front(alloc, limit, drain, &front)?;
     let Missing { ops, more } = read_round(alloc, reader, source)?;
     let count = ops.as_slice().len();
     match sink.take_all(ops) {
-        Ok(()) => Ok(Handed { count, more }),
+        Ok(()) => Ok(Handed { asked, count, more }),
         Err(fault) => Err(declined(fault)),
     }
 }
@@ -179,17 +192,18 @@ fn declined(fault: SinkFault) -> LineFault
     }
 }
 
-/// Asks a session for the operations that a front lacks, by a line of at most so many bytes before its LF. Refusals: 1
-/// `LongLine`, the front needs a longer line, and nothing was sent; 4 `WriteFault`, the drain failed; 5 `NoMemory`,
-/// nothing was sent.
+/// Asks a session for the operations that a front lacks, by a line of at most so many bytes before its LF, which is
+/// returned. Refusals: 1 `LongLine`, the front needs a longer line, and nothing was sent; 4 `WriteFault`, the drain
+/// failed; 5 `NoMemory`, nothing was sent.
 pub fn send_front<D: Drain>(
     alloc: Global,
     limit: usize,
     drain: &mut D,
     front: &Front,
-) -> Result<(), LineFault>
+) -> Result<String, LineFault>
     ensures sends { SendsFront limit front.now (D.taken drain.old) (D.taken drain.new) (D.failed drain.old)
         (D.failed drain.new) result }
+    ensures line { IfOk result (λ line. string_bytes line ≡ front_line front.now) }
     ensures within { OnOk result (length (front_line front.now) ≤ limit + 1) }
 {
     let Ok(line) = line_of(alloc, front) else {
@@ -198,7 +212,8 @@ pub fn send_front<D: Drain>(
     if line.as_str().len() > limit.saturating_add(1) {
         return Err(LineFault::LongLine);
     }
-    send(drain, line.as_str())
+    send(drain, line.as_str())?;
+    Ok(line)
 }
 
 /// The line that asks for what a front lacks.

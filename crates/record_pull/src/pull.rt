@@ -18,9 +18,9 @@ use std::alloc::Global;
 const ROUNDS: u32 = 65_536;
 
 /// The record of the site at the other side of a connection, answer by answer, until the site says that nothing is
-/// left. Refusals: 1 to 6, those of `gossip_line::pull_run`; 10 `NoEnd`, the 65,536th answer said that more is left, as
-/// those of a site do that answers the same operations again and again: more than 256 lie past a gap of its record. It
-/// costs what `Replica::take` costs for each operation, and O(n) for n bytes that are read and written.
+/// left. Refusals: 1 to 6, those of `gossip_line::pull_run`; 10 `NoEnd`, the second answer to the same front said that
+/// more is left, since 256 operations or more lie past gaps of the site's record, or the 65,536th answer did. It costs
+/// what `Replica::take` costs for each operation, and O(n) for n bytes that are read and written.
 pub fn pull_record<S: Source, D: Drain>(
     alloc: Global,
     source: &mut S,

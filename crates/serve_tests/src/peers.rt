@@ -44,18 +44,18 @@ fn a_peer_that_is_back_is_reported(rt: HostRuntime) {
 }
 
 const ENDLESS: &str = r#"
-# To 4,096 fronts it answers with the same operation past a gap: the first of its start is missing. More is left then.
+# To two fronts it answers with the same operation past a gap: the first of its start is missing. More is left then.
 peer other
 site 1
 site 1 pulls other
 start 1
 other accepts
 other > hello 2
-other > for 1 to 4096 op {"change":5,"op":"merged","seq":2,"site":2,"start":1,"time":2}<lf>more
+other > for 1 to 2 op {"change":5,"op":"merged","seq":2,"site":2,"start":1,"time":2}<lf>more
 other is left after quit
 other accepts
 other > hello 2
-other > for 1 to 4096 op {"change":5,"op":"merged","seq":2,"site":2,"start":1,"time":2}<lf>more
+other > for 1 to 2 op {"change":5,"op":"merged","seq":2,"site":2,"start":1,"time":2}<lf>more
 other is left after quit
 wait 300 ms
 stop 1

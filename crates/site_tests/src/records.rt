@@ -1,7 +1,7 @@
 //! Records that are pulled over texts, worked out by hand.
 
 use super::asserts::assert_found;
-use super::talks::MEMORY;
+use super::talks::{MEMORY, push_merge};
 use byte_ends::{Broken, Ends, Source};
 use console::PullFault;
 use gossip_line::LineFault;
@@ -80,20 +80,41 @@ fn answers_that_are_none_are_refused(rt: HostRuntime) {
     }
 }
 
-/// The answers of a site that says 65,536 times that more is left.
-fn answers_without_end(alloc: Global) -> Option<String> {
+/// The answers of a site of which so many bring a merge, and say that more is left.
+fn answers_with_more(alloc: Global, count: u32) -> Option<String> {
     let mut answers = String::from_str(alloc, "hello 2\n").ok()?;
-    for _ in 0..65_536 {
+    for number in 1..=count {
+        push_merge(&mut answers, number).ok()?;
         answers.push_str("more\n").ok()?;
     }
     Some(answers)
 }
 
-// A site that says without end that more is left is asked 65,536 times.
+/// How a record is pulled of a site with so many such answers, and then one that ends it.
+fn pulled_after(alloc: Global, count: u32) -> Option<Result<usize, PullFault>> {
+    let mut answers = answers_with_more(alloc, count)?;
+    answers.push_str("done\n").ok()?;
+    let (pulled, _) = pulled_of(alloc, &mut Ends::new(answers.as_bytes()));
+    Some(pulled.map(|replica| replica.len()))
+}
+
+// A site that brings something with each answer is asked 65,536 times.
+#[test]
+fn a_record_has_65536_answers(rt: HostRuntime) {
+    let last = pulled_after(rt.alloc(), 65_535);
+    assert_found(&rt, last, Some(Ok(65_535)));
+    let none = pulled_after(rt.alloc(), 65_536);
+    assert_found(&rt, none, Some(Err(PullFault::NoEnd)));
+}
+
+// A site that says that more is left, and brings nothing, is asked once more.
 #[test]
 fn a_record_without_an_end_is_refused(rt: HostRuntime) {
-    let answers = answers_without_end(rt.alloc()).expect(&rt, MEMORY);
-    assert_unpulled(&rt, rt.alloc(), answers.as_str(), PullFault::NoEnd);
+    let answers = "hello 2\nmore\nmore\n";
+    let (pulled, asked) = pulled_of(rt.alloc(), &mut Ends::new(answers.as_bytes()));
+    assert_found(&rt, pulled.err(), Some(PullFault::NoEnd));
+    let wanted = b"hello 2\nfront []\nfront []\nquit\n".as_slice();
+    assert_found(&rt, asked.as_slice(), wanted);
 }
 
 /// Why a record isn't pulled where what is asked fails before its third byte.

@@ -565,8 +565,47 @@ fn whole_answers_are_handed_over(rt: HostRuntime) {
     }
 }
 
+// What lies past a gap no front says: the first operation of its start isn't there.
+#[test]
+fn a_front_is_asked_with_twice_at_most(rt: HostRuntime) {
+    for pulling in &[
+        Pulling {
+            peer: b"hello 2\nop {\"change\":5,\"op\":\"merged\",\"seq\":2,\"site\":1,\"start\":1,\"time\":2}\nmore\nop {\"change\":5,\"op\":\"merged\",\"seq\":2,\"site\":1,\"start\":1,\"time\":2}\nmore\n",
+            asked: b"hello 2\nfront []\nfront []\nquit\n",
+            ended: Ok(Pulled {
+                rounds: 2,
+                taken: 2,
+                more: true,
+            }),
+            count: 1,
+        },
+        Pulling {
+            peer: b"hello 2\nmore\nop {\"change\":5,\"op\":\"merged\",\"seq\":1,\"site\":1,\"start\":1,\"time\":1}\ndone\n",
+            asked: b"hello 2\nfront []\nfront []\nquit\n",
+            ended: Ok(Pulled {
+                rounds: 2,
+                taken: 1,
+                more: false,
+            }),
+            count: 1,
+        },
+        Pulling {
+            peer: b"hello 2\nop {\"change\":5,\"op\":\"merged\",\"seq\":1,\"site\":1,\"start\":1,\"time\":1}\nmore\nmore\nop {\"change\":6,\"op\":\"merged\",\"seq\":2,\"site\":1,\"start\":1,\"time\":2}\nmore\n",
+            asked: b"hello 2\nfront []\nfront [[1,1,1]]\nfront [[1,1,1]]\nquit\n",
+            ended: Ok(Pulled {
+                rounds: 3,
+                taken: 2,
+                more: true,
+            }),
+            count: 2,
+        },
+    ] {
+        assert_pulls(&rt, rt.alloc(), pulling);
+    }
+}
+
 /// Adds the merge of a change with this number, which is its sequence number and time, too.
-fn push_merge(text: &mut String, number: u32) -> Result<(), AllocError> {
+pub fn push_merge(text: &mut String, number: u32) -> Result<(), AllocError> {
     write!(
         text,
         "op {{\"change\":{number},\"op\":\"merged\",\"seq\":{number},"
@@ -601,6 +640,28 @@ fn an_answer_has_256_operations(rt: HostRuntime) {
     assert_found(&rt, pulled_merges(rt.alloc(), 256), Some((Ok(whole), 256)));
     let refused = (Err(LineFault::BadAnswer), 0);
     assert_found(&rt, pulled_merges(rt.alloc(), 257), Some(refused));
+}
+
+/// What a peer answers that has so many merges, one an answer, and more.
+fn answers_of(alloc: Global, count: u32) -> Option<String> {
+    let mut text = String::from_str(alloc, "hello 2\n").ok()?;
+    for number in 1..=count {
+        push_merge(&mut text, number).ok()?;
+        text.push_str("more\n").ok()?;
+    }
+    Some(text)
+}
+
+#[test]
+fn a_pull_has_4096_answers(rt: HostRuntime) {
+    let text = answers_of(rt.alloc(), 4097).expect(&rt, MEMORY);
+    let ((ended, _), count) = first_pull(rt.alloc(), text.as_bytes()).expect(&rt, MEMORY);
+    let whole = Pulled {
+        rounds: 4096,
+        taken: 4096,
+        more: true,
+    };
+    assert_found(&rt, (ended, count), (Ok(whole), 4096));
 }
 
 /// How many operations a pull by a site takes of what a peer has that says this, and how many the site then has.
