@@ -51,9 +51,9 @@ class Planner:
         self.every, self.gather, self.pause, self.say = every, gather, pause, say
         # The changes that wait to be queried, in the order in which they were asked for, and when they are due.
         self.waiting, self.waiting_due = [], 0
-        # Of each change: whether it had an event or was listed by a query of all changes, until when it rests because
-        # an answer didn't list it, or because its query took too long, in which round its query failed, and how often
-        # its query was repeated.
+        # Of each change: whether it had an event or was listed by a query of all changes, until when it rests unless it
+        # has an event, or because its query took too long, in which round its query failed, and how often its query was
+        # repeated.
         self.known, self.unlisted, self.slow, self.failed, self.repeated = set(), {}, {}, {}, {}
         # The query of all changes: whether it is asked for, when it is due otherwise, the pause after the next failure,
         # how many were begun, when the one under way was, and the moment after the first success.
@@ -96,8 +96,8 @@ class Planner:
             if not self.waiting or now < self.waiting_due:
                 return "nothing"
             self.left = self.most
-        if self.waiting and self.left > 0:
-            return self.begin_changes()
+        if self.awake(now) and self.left > 0:
+            return self.begin_changes(now)
         self.left = None
         self.most = min(2 * self.most, PORTION)
         self.waiting_due = after(now, FLOW)
@@ -109,16 +109,20 @@ class Planner:
         self.round, self.began = self.round + 1, now
         return "all"
 
-    def begin_changes(self) -> str:
-        chosen = self.chosen()
+    def begin_changes(self, now: int) -> str:
+        chosen = self.chosen(self.awake(now))
         self.under_way, self.listed = chosen, set()
         self.left -= len(chosen)
         return " ".join(["changes", *map(str, chosen)])
 
-    def chosen(self) -> list:
+    def awake(self, now: int) -> list:
+        """The changes that wait and don't rest."""
+        return [change for change in self.waiting if not self.rests(now, change)]
+
+    def chosen(self, awake: list) -> list:
         """The known ones alone, if there are any; of too many the first ones, and as one half the last ones."""
-        known = [change for change in self.waiting if change in self.known]
-        fitting = known or self.waiting
+        known = [change for change in awake if change in self.known]
+        fitting = known or awake
         if len(fitting) <= self.left:
             return list(fitting)
         last = self.left // 2 if self.most == PORTION else 0
@@ -192,7 +196,9 @@ class Planner:
             self.repeated[change] = repeated + 1
             self.say("a query of 1 changes failed, and is asked again")
             return
-        self.stop_waiting(change)
+        is_known = change in self.known
+        if not is_known:
+            self.stop_waiting(change)
         self.repeated.pop(change, None)
         if is_slow:
             self.say(f"the query of change {change} took too long, and isn't asked again for an hour")
@@ -200,7 +206,9 @@ class Planner:
         else:
             self.say(f"the query of change {change} failed, and isn't asked again before the next query of all changes")
             self.failed[change] = self.round
-        if change in self.known:
+            if is_known:
+                self.unlisted[change] = after(now, IN_VAIN)
+        if is_known:
             self.all_due = min(self.all_due, after(now, AGAIN))
 
     # ---- the lines

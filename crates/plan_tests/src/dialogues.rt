@@ -186,7 +186,7 @@ fn fewer_are_queried_next(rt: HostRuntime) {
 }
 
 /// The query of a known change alone is made three times; then it rests for the round, and all changes come within a
-/// minute.
+/// minute. It had an event meanwhile, so that its next query comes after theirs.
 const ONE_IS_ASKED_AGAIN_TWICE: &str = "
 > 0 next
 < all
@@ -222,15 +222,80 @@ const ONE_IS_ASKED_AGAIN_TWICE: &str = "
 < all
 > 192 whole
 > 192 next
-< nothing
-> 193 ask 5
-> 200 next
 < changes 5
+> 193 listed 5
+> 193 whole
+> 193 next
+< nothing
+> 200 next
+< nothing
 ";
 
 #[test]
 fn one_is_asked_again_twice(rt: HostRuntime) {
     assert_talks(&rt, rt.alloc(), ONE_IS_ASKED_AGAIN_TWICE);
+}
+
+/// A known change whose own query failed three times waits on, and is queried again after an hour: a query of all changes
+/// need not list it. Others that wait are queried meanwhile.
+const A_KNOWN_ONE_WAITS_WHILE_IT_RESTS: &str = "
+> 0 next
+< all
+> 1 listed 5
+> 1 whole
+> 1 next
+< nothing
+> 61 next
+< all
+> 62 whole
+> 62 next
+< nothing
+> 100 need 5
+> 110 next
+< changes 5
+> 111 refused
+! feed: a query of 1 changes failed, and is asked again
+> 120 next
+< changes 5
+> 121 refused
+! feed: a query of 1 changes failed, and is asked again
+> 130 next
+< changes 5
+> 131 refused
+! feed: the query of change 5 failed, and isn't asked again before the next query of all changes
+> 191 next
+< all
+> 192 whole
+> 192 next
+< nothing
+> 200 need 5
+> 200 need 6
+> 210 next
+< changes 6
+> 211 listed 6
+> 211 whole
+> 211 next
+< nothing
+> 3730 next
+< all
+> 3730 whole
+> 3730 next
+< nothing
+> 3733 next
+< nothing
+> 3734 next
+< changes 5
+> 3735 listed 5
+> 3735 whole
+> 3735 next
+< nothing
+> 3740 next
+< nothing
+";
+
+#[test]
+fn a_known_one_waits_while_it_rests(rt: HostRuntime) {
+    assert_talks(&rt, rt.alloc(), A_KNOWN_ONE_WAITS_WHILE_IT_RESTS);
 }
 
 /// The query of an unknown change alone that Gerrit refuses isn't made again in this round, and brings no query of all

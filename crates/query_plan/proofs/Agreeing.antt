@@ -140,21 +140,28 @@ losing_agrees OfAll now old new notice loses agrees =
 losing_agrees Changes now old new notice loses agrees =
     lost_agrees old.schedule.query now old new loses.0 loses.2.0 agrees
 
-gives_up_waits : (slow : Bool) (now round : ℕ) (marks : Marks) → (given_up slow now round marks).waits ≡ false
+gives_up_waits : (slow : Bool) (now round : ℕ) (marks : Marks)
+    → (given_up slow now round marks).waits ≡ (marks.waits && marks.is_known)
 gives_up_waits true now round marks = refl
 gives_up_waits false now round marks = refl
 
-given_agrees : (x other : ℕ) (is : Bool) (changes others : List ℕ) (gone before after : Marks) → (other == x) ≡ is
-    → gone.waits ≡ false → others ≡ filter (λ n. not (n == x)) changes
-    → after ≡ (if is then gone else before) → before.waits ≡ is_on_list changes other
-    → after.waits ≡ is_on_list others other
-given_agrees x other true changes others gone before after e none rest kept agrees =
-    ap (λ m. m.waits) kept ∙ none
+given_agrees : (x other : ℕ) (knows is : Bool) (changes others : List ℕ) (alone gone before after : Marks)
+    → alone.is_known ≡ knows → (other == x) ≡ is → gone.waits ≡ (alone.waits && alone.is_known)
+    → others ≡ (if knows then changes else filter (λ n. not (n == x)) changes)
+    → after ≡ (if is then gone else before) → alone.waits ≡ is_on_list changes x
+    → before.waits ≡ is_on_list changes other → after.waits ≡ is_on_list others other
+given_agrees x other true true changes others alone gone before after k e waits rest kept agrees others_agree =
+    ap (λ m. m.waits) kept ∙ waits ∙ ap (λ (b : Bool). alone.waits && b) k ∙ and_some alone.waits ∙ agrees
+    ∙ ap (λ (n : ℕ). is_on_list changes n) (sym (eqb-true other x e)) ∙ sym (ap (λ l. is_on_list l other) rest)
+given_agrees x other false true changes others alone gone before after k e waits rest kept agrees others_agree =
+    ap (λ m. m.waits) kept ∙ waits ∙ ap (λ (b : Bool). alone.waits && b) k ∙ and_none alone.waits
     ∙ sym (ap (λ l. is_on_list l other) rest
     ∙ on_filter_is (λ n. not (n == x)) changes other (is_on_list changes other) false refl (ap not e)
     ∙ and_none (is_on_list changes other))
-given_agrees x other false changes others gone before after e none rest kept agrees =
-    ap (λ m. m.waits) kept ∙ agrees
+given_agrees x other true false changes others alone gone before after k e waits rest kept agrees others_agree =
+    ap (λ m. m.waits) kept ∙ others_agree ∙ sym (ap (λ l. is_on_list l other) rest)
+given_agrees x other false false changes others alone gone before after k e waits rest kept agrees others_agree =
+    ap (λ m. m.waits) kept ∙ others_agree
     ∙ sym (ap (λ l. is_on_list l other) rest
     ∙ on_filter_is (λ n. not (n == x)) changes other (is_on_list changes other) true refl (ap not e)
     ∙ and_some (is_on_list changes other))
@@ -175,11 +182,11 @@ refused_agrees (x ∷ []) late now old new told (inl repeated) agrees = λ other
     ∙ repeated_waits (other == x) x other old refl agrees
     ∙ sym (ap (λ w. is_on_list w.items other) repeated.waits)
 refused_agrees (x ∷ []) late now old new told (inr given) agrees = λ other.
-    given_agrees x other (other == x) old.waiting.items new.waiting.items
-    (given_up (late && old.schedule.is_well) now old.schedule.round (marks_at old.marks x)) (marks_at old.marks other)
-    (marks_at new.marks other) refl
+    given_agrees x other (marks_at old.marks x).is_known (other == x) old.waiting.items new.waiting.items
+    (marks_at old.marks x) (given_up (late && old.schedule.is_well) now old.schedule.round (marks_at old.marks x))
+    (marks_at old.marks other) (marks_at new.marks other) refl refl
     (gives_up_waits (late && old.schedule.is_well) now old.schedule.round (marks_at old.marks x)) given.waits
-    (given.kept other) (agrees other)
+    (given.kept other) (agrees x) (agrees other)
 refused_agrees (x ∷ y ∷ named) late now old new told refused agrees =
     same_both old new refused.same.0 refused.same.1 agrees
 

@@ -4,13 +4,15 @@ use Rattle.std.proofs.Common.{if◌then◌else◌}
 use Rattle.std.proofs.Common.{inl, inr, refl, sym, ap}
 use Rattle.std.specs.Prelude.{◌==◌, ◌&&◌, ◌||◌, filter}
 use Rattle.std.specs.Ordering.{nat_cmp}
+use Rattle.std.specs.BTreeMap.{BTreeMap}
 use Rattle.std.specs.BTreeSet.{BTreeSet, contains}
 use Rattle.std.proofs.lemmas.Bool.{eqb-true, false≢true}
 use Rattle.query_plan.specs.Ending.{AreChangesRefused, ChangesFail, QueryFails, stays}
 use Rattle.query_plan.specs.Keeping.{IsWaiting, WaitsOn}
-use Rattle.query_plan.specs.Plan.{is_on_list}
+use Rattle.query_plan.specs.Plan.{is_known_by, is_on_list}
 use Rattle.query_plan.specs.Stepping.{LosesQuery}
 use Rattle.query_plan.specs.declared.line.Word.TheVariants.{Ask, Need, All, Next, Listed, Whole, Refused, Late, Lost}
+use Rattle.query_plan.specs.declared.marks.Marks.{Marks}
 use Rattle.query_plan.specs.declared.notice.Notice.{Notice}
 use Rattle.query_plan.specs.declared.plan.Plan.{Plan}
 use Rattle.query_plan.specs.declared.schedule.Failure.{Failure}
@@ -79,30 +81,39 @@ losing_keeps Nothing now old new notice loses = ap (λ p. p.waiting.items) loses
 losing_keeps OfAll now old new notice loses = lost_keeps old.schedule.query now old new loses.0 loses.2.0
 losing_keeps Changes now old new notice loses = lost_keeps old.schedule.query now old new loses.0 loses.2.0
 
-alone : (x change : ℕ) (changes others : List ℕ) (is : Bool) → (change == x) ≡ is
-    → others ≡ filter (λ other. not (other == x)) changes → is_on_list changes change ≡ true
-    → (x ∷ [] ≡ change ∷ []) ⊎ (is_on_list others change ≡ true)
-alone x change changes others true is rest on = inl (ap (λ (n : ℕ). n ∷ []) (sym (eqb-true change x is)))
-alone x change changes others false is rest on =
+-- one that was named alone waits on if it is known, and all others do
+alone : (marks : BTreeMap ℕ Marks) (x change : ℕ) (changes others : List ℕ) (knows is : Bool)
+    → is_known_by marks x ≡ knows → (change == x) ≡ is
+    → others ≡ (if knows then changes else filter (λ other. not (other == x)) changes)
+    → is_on_list changes change ≡ true
+    → ((x ∷ [] ≡ change ∷ []) × (is_known_by marks change ≡ false)) ⊎ (is_on_list others change ≡ true)
+alone marks x change changes others true is known same rest on = inr (on_same changes others change rest on)
+alone marks x change changes others false true known same rest on =
+    let one = sym (eqb-true change x same) in
+    inl (ap (λ (n : ℕ). n ∷ []) one, ap (is_known_by marks) (sym one) ∙ known)
+alone marks x change changes others false false known same rest on =
     inr (on_same (filter (λ other. not (other == x)) changes) others change rest
-    (on_filter (λ other. not (other == x)) changes change (ap not is) on))
+    (on_filter (λ other. not (other == x)) changes change (ap not same) on))
 
 refused_keeps : (named : List ℕ) (late : Bool) (now change : ℕ) (old new : Plan) (told : Notice)
     → AreChangesRefused now late named old told new → IsWaiting old change
-    → (named ≡ change ∷ []) ⊎ IsWaiting new change
+    → ((named ≡ change ∷ []) × (is_known_by old.marks change ≡ false)) ⊎ IsWaiting new change
 refused_keeps [] late now change old new told refused on =
     inr (on_same old.waiting.items new.waiting.items change (ap (λ w. w.items) refused.same.0) on)
 refused_keeps (x ∷ []) late now change old new told (inl repeated) on =
     inr (on_same old.waiting.items new.waiting.items change (ap (λ w. w.items) repeated.waits) on)
 refused_keeps (x ∷ []) late now change old new told (inr given) on =
-    alone x change old.waiting.items new.waiting.items (change == x) refl given.waits on
+    alone old.marks x change old.waiting.items new.waiting.items (is_known_by old.marks x) (change == x) refl refl
+    given.waits on
 refused_keeps (x ∷ y ∷ named) late now change old new told refused on =
     inr (on_same old.waiting.items new.waiting.items change (ap (λ w. w.items) refused.same.0) on)
 
 all_paused : (query : Query) (late : Failure) (now change : ℕ) (old new : Plan) (told : Notice)
     → QueryFails query now late old told new
-    → (ChangesFail now late old.named.items old told new → IsWaiting old change → (old.named.items ≡ change ∷ []) ⊎ IsWaiting new change)
-    → IsWaiting old change → (old.named.items ≡ change ∷ []) ⊎ IsWaiting new change
+    → (ChangesFail now late old.named.items old told new → IsWaiting old change
+    → ((old.named.items ≡ change ∷ []) × (is_known_by old.marks change ≡ false)) ⊎ IsWaiting new change)
+    → IsWaiting old change
+    → ((old.named.items ≡ change ∷ []) × (is_known_by old.marks change ≡ false)) ⊎ IsWaiting new change
 all_paused Nothing late now change old new told fails keeps on = keeps fails on
 all_paused OfAll late now change old new told fails keeps on =
     inr (on_same old.waiting.items new.waiting.items change (ap (λ w. w.items) fails.same.0) on)

@@ -7,9 +7,9 @@ use borrow.Author.Tests.{leb-true}
 use Rattle.std.specs.Prelude.{◌==◌, ◌||◌, filter, nat_le, nat_lt}
 use Rattle.std.proofs.lemmas.Bool.{eqb-true, false≢true}
 use Rattle.std.proofs.lemmas.Grind.{common_steps}
-use Rattle.query_plan.specs.Giving.{first_class, known_waiting, picked}
+use Rattle.query_plan.specs.Giving.{awake, first_class, picked}
 use Rattle.query_plan.specs.Keeping.{NamesPortions}
-use Rattle.query_plan.specs.Plan.{is_empty, is_known_by, is_on_list}
+use Rattle.query_plan.specs.Plan.{is_awake_by, is_empty, is_known_by, is_on_list}
 use Rattle.query_plan.specs.declared.plan.Plan.{Plan}
 use Rattle.query_plan.proofs.Keeping.{on_filter}
 
@@ -93,17 +93,15 @@ on_picked changes most last change on =
 
 -- ---- the first class
 
-on_class : (none : Bool) (plan : Plan) (change : ℕ)
-    → is_on_list (if none then plan.waiting.items else known_waiting plan) change ≡ true
-    → is_on_list plan.waiting.items change ≡ true
-on_class true plan change on = on
-on_class false plan change on = (on_filtered (is_known_by plan.marks) plan.waiting.items change on).0
+on_class : (none : Bool) (known : ℕ → Bool) (changes : List ℕ) (change : ℕ)
+    → is_on_list (if none then changes else filter known changes) change ≡ true → is_on_list changes change ≡ true
+on_class true known changes change on = on
+on_class false known changes change on = (on_filtered known changes change on).0
 
-class_known : (none : Bool) (plan : Plan) (change : ℕ) → none ≡ false
-    → is_on_list (if none then plan.waiting.items else known_waiting plan) change ≡ true
-    → is_known_by plan.marks change ≡ true
-class_known true plan change is on = absurd (false≢true (sym is))
-class_known false plan change is on = (on_filtered (is_known_by plan.marks) plan.waiting.items change on).1
+class_known : (none : Bool) (known : ℕ → Bool) (changes : List ℕ) (change : ℕ) → none ≡ false
+    → is_on_list (if none then changes else filter known changes) change ≡ true → known change ≡ true
+class_known true known changes change is on = absurd (false≢true (sym is))
+class_known false known changes change is on = (on_filtered known changes change on).1
 
 some_on : (changes : List ℕ) (change : ℕ) → is_on_list changes change ≡ true → is_empty changes ≡ false
 some_on [] change on = absurd (false≢true on)
@@ -140,20 +138,24 @@ class_some true known waiting is some = some
 class_some false known waiting is some = is
 
 pub portions : NamesPortions
-portions most plan more some_wait =
+portions now most plan more some_awake =
     let whole = nat_lt plan.schedule.most 50 in
     let last = if whole then 0 else most / 2 in
     let within : last < most = share_within whole most more in
-    let class_has : is_empty (first_class plan) ≡ false =
-    class_some (is_empty (known_waiting plan)) (known_waiting plan) plan.waiting.items refl some_wait in
+    let known = is_known_by plan.marks in
+    let test = is_awake_by now plan.schedule.round plan.marks in
+    let waking = awake now plan in
+    let class = first_class plan.marks waking in
+    let class_has : is_empty class ≡ false =
+    class_some (is_empty (filter known waking)) (filter known waking) waking refl some_awake in
     record {
-      wait = λ change on. on_class (is_empty (known_waiting plan)) plan change
-          (on_picked (first_class plan) most _ change on);
-      few = few_picked (nat_le (length (first_class plan)) most) (first_class plan) most last refl within;
-      some = some_picked (nat_le (length (first_class plan)) most) (first_class plan) most last within
-          (some_in (first_class plan) class_has);
-      known_first = λ change other waits known on.
-          class_known (is_empty (known_waiting plan)) plan other
-          (some_on (known_waiting plan) change (on_filter (is_known_by plan.marks) plan.waiting.items change known waits))
-          (on_picked (first_class plan) most _ other on);
+      awake = λ change on. on_filtered test plan.waiting.items change
+          (on_class (is_empty (filter known waking)) known waking change (on_picked class most _ change on));
+      few = few_picked (nat_le (length class) most) class most last refl within;
+      some = some_picked (nat_le (length class) most) class most last within (some_in class class_has);
+      known_first = λ change other is knows on.
+          class_known (is_empty (filter known waking)) known waking other
+          (some_on (filter known waking) change
+          (on_filter known waking change knows (on_filter test plan.waiting.items change is.1 is.0)))
+          (on_picked class most _ other on);
     }

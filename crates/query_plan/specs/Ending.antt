@@ -65,9 +65,10 @@ abbrev pub is_repeated : Marks → Bool
 is_repeated marks = marks.is_known && nat_lt marks.repeats 2
 
 -- it rests for an hour where Gerrit took too long for it, and answered another query since it last did; else for the
--- rest of the round
+-- rest of the round, and, if it is known, for an hour or until its next event
 abbrev pub given_up : Bool → ℕ → ℕ → Marks → Marks
-given_up slow now round old = if slow then as_slow (later now 3600) old else as_failed round old
+given_up slow now round old =
+    if slow then as_slow (later now 3600) old else as_failed round (later now 3600) old
 
 -- what is kept of other changes is the same
 abbrev pub KeepsBut : ℕ → Marks → Plan → Plan → Type 0
@@ -88,11 +89,12 @@ pub record IsRepeated (now change : ℕ) (late : Bool) (old : Plan) (told : Noti
   pub planned : new.schedule ≡ refused_changes now 1 late old.schedule
   pub notice : told ≡ Repeated 1
 
--- a change was named alone that isn't queried again: it doesn't wait any more, and rests; if it is known, all changes
--- are queried within a minute
+-- a change was named alone that isn't queried again at once: it rests; if it is known, it waits on, and all changes are
+-- queried within a minute
 pub record IsGivenUp (now change : ℕ) (late : Bool) (old : Plan) (told : Notice) (new : Plan) : Type 0 where
   pub enough : is_repeated (marks_at old.marks change) ≡ false
-  pub waits : new.waiting.items ≡ filter (λ other. not (other == change)) old.waiting.items
+  pub waits : new.waiting.items ≡ (if (marks_at old.marks change).is_known then old.waiting.items
+      else filter (λ other. not (other == change)) old.waiting.items)
   pub kept : KeepsBut change
       (given_up (late && old.schedule.is_well) now old.schedule.round (marks_at old.marks change)) old new
   pub planned : let refused = refused_changes now 1 late old.schedule in new.schedule

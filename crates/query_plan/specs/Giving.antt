@@ -2,21 +2,24 @@
 use Rattle.std.specs.Prelude.{◌≡◌, ◌≤◌, ◌<◌, ◌⊎◌, ◌-◌, ◌/◌, ℕ, true, false, List, ◌++◌, if◌then◌else◌, nat_le}
 use Rattle.std.specs.Prelude.{nat_lt, length, take, drop, Option, Some, None}
 use Rattle.std.specs.List.{filter}
-use Rattle.query_plan.specs.Plan.{is_empty, is_known_by}
+use Rattle.std.specs.BTreeMap.{BTreeMap}
+use Rattle.query_plan.specs.Plan.{is_awake_by, is_empty, is_known_by}
 use Rattle.query_plan.specs.Schedule.{given_all, given_changes, turn_ended}
+use Rattle.query_plan.specs.declared.marks.Marks.{Marks}
 use Rattle.query_plan.specs.declared.plan.Plan.{Plan}
 use Rattle.query_plan.specs.declared.schedule.Query.{Query}
 use Rattle.query_plan.specs.declared.schedule.Query.TheVariants.{Nothing, All, Changes}
 
 -- ---- which changes are named
 
--- the changes that wait and are known, in the order in which they were asked for
-abbrev pub known_waiting : Plan → List ℕ
-known_waiting plan = filter (is_known_by plan.marks) plan.waiting.items
+-- the changes that wait and don't rest, in the order in which they were asked for
+abbrev pub awake : ℕ → Plan → List ℕ
+awake now plan = filter (is_awake_by now plan.schedule.round plan.marks) plan.waiting.items
 
--- the known ones if any of them waits, else all that wait
-abbrev pub first_class : Plan → List ℕ
-first_class plan = if is_empty (known_waiting plan) then plan.waiting.items else known_waiting plan
+-- the known ones of a list, if there are any, else all
+abbrev pub first_class : BTreeMap ℕ Marks → List ℕ → List ℕ
+first_class marks changes =
+    if is_empty (filter (is_known_by marks) changes) then changes else filter (is_known_by marks) changes
 
 -- all of a list that has at most so many, else its first ones and so many of its last ones, `most` in all
 abbrev pub picked : List ℕ → ℕ → ℕ → List ℕ
@@ -25,8 +28,12 @@ picked changes most last =
     else take (most - last) changes ++ drop (length changes - last) changes
 
 -- half of a portion are the last ones, unless queries failed of late
-abbrev pub portion : ℕ → Plan → List ℕ
-portion most plan = picked (first_class plan) most (if nat_lt plan.schedule.most 50 then 0 else most / 2)
+abbrev pub portion_of : ℕ → Plan → List ℕ → List ℕ
+portion_of most plan changes =
+    picked (first_class plan.marks changes) most (if nat_lt plan.schedule.most 50 then 0 else most / 2)
+
+abbrev pub portion : ℕ → ℕ → Plan → List ℕ
+portion now most plan = portion_of most plan (awake now plan)
 
 -- ---- what is given
 
@@ -37,19 +44,19 @@ pub record HasSame (old new : Plan) : Type 0 where
   pub listed : new.listed ≡ old.listed
 
 -- changes are named, in a turn that may query so many
-pub record NamesChanges (left : ℕ) (old new : Plan) : Type 0 where
+pub record NamesChanges (now left : ℕ) (old new : Plan) : Type 0 where
   pub some_left : 0 < left
-  pub some_wait : is_empty old.waiting.items ≡ false
-  pub named : new.named.items ≡ portion left old
-  pub planned : new.schedule ≡ given_changes left (length (portion left old)) old.schedule
+  pub some_awake : is_empty (awake now old) ≡ false
+  pub named : new.named.items ≡ portion now left old
+  pub planned : new.schedule ≡ given_changes left (length (portion now left old)) old.schedule
 
--- a turn that may query so many changes goes on, or ends where nothing waits or all of these were queried
+-- a turn that may query so many changes goes on, or ends where all that waits rests or all of these were queried
 abbrev pub GoesOnWithTurn : ℕ → ℕ → Plan → Query → Plan → Type 0
 GoesOnWithTurn now left old Nothing new =
-    ((left ≡ 0) ⊎ (is_empty old.waiting.items ≡ true)) × (new.schedule ≡ turn_ended now old.schedule)
+    ((left ≡ 0) ⊎ (is_empty (awake now old) ≡ true)) × (new.schedule ≡ turn_ended now old.schedule)
     × (new.named ≡ old.named)
 GoesOnWithTurn now left old All new = ⊥
-GoesOnWithTurn now left old Changes new = NamesChanges left old new
+GoesOnWithTurn now left old Changes new = NamesChanges now left old new
 
 -- all changes are queried, in a turn that begins
 pub record BeginsWithAll (now : ℕ) (old new : Plan) : Type 0 where

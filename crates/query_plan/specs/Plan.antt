@@ -26,6 +26,10 @@ is_empty changes = length changes == 0
 abbrev pub is_known_by : BTreeMap ℕ Marks → ℕ → Bool
 is_known_by marks change = (marks_at marks change).is_known
 
+-- it may be queried by its number
+abbrev pub is_awake_by : ℕ → ℕ → BTreeMap ℕ Marks → ℕ → Bool
+is_awake_by now round marks change = not (rests now round (marks_at marks change))
+
 -- nothing waits, nothing is kept, and all changes are due
 pub record IsNewPlan (settings : Settings) (plan : Plan) : Type 0 where
   pub none_waits : plan.waiting.items ≡ []

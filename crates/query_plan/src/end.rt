@@ -64,11 +64,12 @@ impl Plan {
     }
 
     /// The query under way failed; what becomes of it is returned. The query of all changes is made again after a pause.
-    /// The changes that were named wait on, except one that was named alone, unless no answer came, or it is known and
-    /// its query wasn't repeated twice: it rests for an hour if Gerrit took too long and answered another query since it
-    /// did last, else until the next query of all changes, which comes within a minute if the change is known. Refusal:
-    /// memory was refused; the plan may have changed in part, and is no use from then on. It costs O(log m) for m changes
-    /// of which something is kept, and O(n) for n that wait.
+    /// The changes that were named wait on. One that was named alone rests, unless no answer came, or it is known and its
+    /// query wasn't repeated twice: for an hour if Gerrit took too long and answered another query since it did last,
+    /// else until the next query of all changes. If it is known, that comes within a minute, and the change rests for an
+    /// hour or until its next event; else it waits no more. Refusal: memory was refused; the plan may have changed in
+    /// part, and is no use from then on. It costs O(log m) for m changes of which something is kept, and O(n) for n that
+    /// wait.
     pub fn end_badly(
         &mut self,
         alloc: Global,
@@ -172,23 +173,25 @@ impl Plan {
         is_slow: bool,
     ) -> Result<(), NoMemory>
         requires { marks ≡ marks_at self.old.marks change }
-        ensures waits { OnOk result
-            (self.new.waiting.items ≡ filter (λ other. not (other == change)) self.old.waiting.items) }
+        ensures waits { OnOk result (self.new.waiting.items ≡ (if marks.is_known then self.old.waiting.items
+            else filter (λ other. not (other == change)) self.old.waiting.items)) }
         ensures kept { OnOk result
             (KeepsBut change (given_up is_slow now self.old.schedule.round marks) self.old self.new) }
         ensures planned { OnOk result (self.new.schedule
             ≡ (if marks.is_known then brought_forward now self.old.schedule else self.old.schedule)) }
         ensures same { HasSameQuery self.old self.new }
     {
+        let until = now.saturating_add(IN_VAIN);
         let resting = if is_slow {
-            marks.slow(now.saturating_add(IN_VAIN))
+            marks.slow(until)
         } else {
-            marks.failed(self.schedule.round)
+            marks.failed(self.schedule.round, until)
         };
         self.marks.insert(change, resting)?;
-        self.waiting = without(alloc, self.waiting.as_slice(), change)?;
         if marks.is_known {
             self.schedule = self.schedule.brought_forward(now);
+        } else {
+            self.waiting = without(alloc, self.waiting.as_slice(), change)?;
         }
         Ok(())
     }

@@ -2,8 +2,8 @@
 
 ghost use Rattle.std.specs.Prelude.{◌≡◌, ◌≤◌, ◌<◌, ◌/◌, IfOk, None, OnErr, if◌then◌else◌, nat_lt};
 ghost use Rattle.std.specs.List.{filter};
-ghost use Rattle.query_plan.specs.Giving.{BeginsTurn, GivesQuery, GoesOnWithTurn, HasSame, picked, portion};
-ghost use Rattle.query_plan.specs.Plan.{is_known_by};
+ghost use Rattle.query_plan.specs.Giving.{BeginsTurn, GivesQuery, GoesOnWithTurn, HasSame, picked, portion_of};
+ghost use Rattle.query_plan.specs.Plan.{is_awake_by, is_known_by};
 
 use super::marks::Marks;
 use super::plan::{Plan, kept_of};
@@ -14,11 +14,12 @@ use std::collections::BTreeMap;
 
 impl Plan {
     /// The query that is given at this time. Between two turns that is the one of all changes if it is due, else one of
-    /// changes if some wait and are due, else none. Within a turn it is one of changes, as long as some wait and the turn
-    /// may query more; then the turn ends with none. The changes that it names are `named`: those that are known alone if
-    /// one of them waits, else the others; all of them that the turn may query; where there are more, the first ones,
-    /// and in a turn that may query 50 in all as many of the last ones. They wait until the query's end. Refusal: memory
-    /// was refused, and nothing changed. It costs O(n log m), for n changes that wait and m of which something is kept.
+    /// changes if some wait and are due, else none. Within a turn it is one of changes, as long as some wait that don't
+    /// rest and the turn may query more; then the turn ends with none. The changes that it names are `named`, and none of
+    /// them rests: those that are known alone if one of them waits, else the others; all of them that the turn may query;
+    /// where there are more, the first ones, and in a turn that may query 50 in all as many of the last ones. They wait
+    /// until the query's end. Refusal: memory was refused, and nothing changed. It costs O(n log m), for n changes that
+    /// wait and m of which something is kept.
     pub fn next(&mut self, alloc: Global, now: u64) -> Result<Query, NoMemory>
         ensures gives { IfOk result (λ given. GivesQuery now self.old given self.new) }
         ensures refused { OnErr result (self.new ≡ self.old) }
@@ -50,27 +51,55 @@ impl Plan {
             (λ given. GoesOnWithTurn now left self.old given self.new × HasSame self.old self.new) }
         ensures refused { OnErr result (self.new ≡ self.old) }
     {
-        if left == 0 || self.waiting.is_empty() {
+        let round = self.schedule.round;
+        let awake = awake_among(alloc, self.waiting.as_slice(), &self.marks, now, round)?;
+        if left == 0 || awake.is_empty() {
             self.schedule = self.schedule.turn_ended(now);
             return Ok(Query::Nothing);
         }
-        let named = self.portion(alloc, left)?;
+        let named = self.portion(alloc, awake.as_slice(), left)?;
         self.schedule = self.schedule.given_changes(left, named.len());
         self.named = named;
         Ok(Query::Changes)
     }
 
-    /// The changes to be named by a query of so many at most.
-    fn portion(&self, alloc: Global, left: usize) -> Result<Vec<u32>, NoMemory>
-        ensures { IfOk result (λ named. named.items ≡ portion left self.now) }
+    /// The changes of a list to be named by a query of so many at most.
+    fn portion(&self, alloc: Global, awake: &[u32], left: usize) -> Result<Vec<u32>, NoMemory>
+        ensures { IfOk result (λ named. named.items ≡ portion_of left self.now awake.now) }
     {
-        let known = known_among(alloc, self.waiting.as_slice(), &self.marks)?;
+        let known = known_among(alloc, awake, &self.marks)?;
         let last = last_ones(self.schedule.most, left);
         if known.is_empty() {
-            return picked(alloc, self.waiting.as_slice(), left, last);
+            return picked(alloc, awake, left, last);
         }
         picked(alloc, known.as_slice(), left, last)
     }
+}
+
+/// The changes of a list that don't rest at this time, in this round, in its order.
+fn awake_among(
+    alloc: Global,
+    changes: &[u32],
+    marks: &BTreeMap<u32, Marks>,
+    now: u64,
+    round: u64,
+) -> Result<Vec<u32>, NoMemory>
+    ensures { IfOk result (λ awake. awake.items ≡ filter (is_awake_by now round marks.now) changes.now) }
+{
+    let mut awake = Vec::new(alloc);
+    for change in changes {
+        if is_awake(marks, *change, now, round) {
+            awake.push(*change)?;
+        }
+    }
+    Ok(awake)
+}
+
+/// Whether a change doesn't rest.
+fn is_awake(marks: &BTreeMap<u32, Marks>, change: u32, now: u64, round: u64) -> bool
+    ensures { result ≡ is_awake_by now round marks.now change }
+{
+    !kept_of(marks, change).rests(now, round)
 }
 
 /// How many of so many changes are the last ones that wait.

@@ -11,8 +11,9 @@ pub struct Marks {
     pub waits: bool,
     /// It had an event, or a query of all changes listed it.
     pub is_known: bool,
-    /// Until when it rests after a whole answer that didn't list it.
-    pub unlisted_until: u64,
+    /// Until when it rests, unless it has an event: after a whole answer that didn't list it, or, if it is known, after
+    /// its own query failed.
+    pub rests_until: u64,
     /// Until when it rests after its own query took too long.
     pub slow_until: u64,
     /// In which round its own query failed; it rests for the rest of that.
@@ -29,20 +30,20 @@ impl Marks {
         Marks {
             waits: false,
             is_known: false,
-            unlisted_until: 0,
+            rests_until: 0,
             slow_until: 0,
             failed_in: None,
             repeats: 0,
         }
     }
 
-    /// It had an event, so it is there.
+    /// It had an event, so it is there, and may have come to be listed.
     pub fn with_event(self) -> Marks
         ensures { result ≡ with_event self }
     {
         Marks {
             is_known: true,
-            unlisted_until: 0,
+            rests_until: 0,
             ..self
         }
     }
@@ -73,7 +74,7 @@ impl Marks {
     {
         Marks {
             waits: false,
-            unlisted_until: until,
+            rests_until: until,
             ..self
         }
     }
@@ -88,24 +89,29 @@ impl Marks {
         }
     }
 
-    /// Its own query took too long.
+    /// Its own query took too long. It waits on if it is known.
     pub fn slow(self, until: u64) -> Marks
         ensures { result ≡ as_slow until self }
     {
         Marks {
-            waits: false,
+            waits: self.waits && self.is_known,
             slow_until: until,
             repeats: 0,
             ..self
         }
     }
 
-    /// Its own query failed in this round.
-    pub fn failed(self, round: u64) -> Marks
-        ensures { result ≡ as_failed round self }
+    /// Its own query failed in this round. If it is known, it waits on, and rests until this time or its next event.
+    pub fn failed(self, round: u64, until: u64) -> Marks
+        ensures { result ≡ as_failed round until self }
     {
         Marks {
-            waits: false,
+            waits: self.waits && self.is_known,
+            rests_until: if self.is_known {
+                until
+            } else {
+                self.rests_until
+            },
             failed_in: Some(round),
             repeats: 0,
             ..self
@@ -116,6 +122,6 @@ impl Marks {
     pub fn rests(self, now: u64, round: u64) -> bool
         ensures { result ≡ rests now round self }
     {
-        now < self.unlisted_until || now < self.slow_until || self.failed_in == Some(round)
+        now < self.rests_until || now < self.slow_until || self.failed_in == Some(round)
     }
 }
