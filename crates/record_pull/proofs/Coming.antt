@@ -76,7 +76,7 @@ never_closed : (before after : Moment (List Operation))
     → Fails Gathers line_limit most_rounds before after Closed → ⊥
 never_closed before after (counts, inl ungreeted) = ungreeted.3
 never_closed before after (counts, inr left) = elim left.6 [
-  | inl next ↦ elim next.2 [ inl front ↦ front.0 | inr taking ↦ taking.8 ]
+  | inl next ↦ elim next.3 [ inl front ↦ front.0 | inr taking ↦ taking.8 ]
   | inr unquit ↦ let other = unquit.fault_is in cc
 ]
 
@@ -84,7 +84,7 @@ never_listed : (before after : Moment (List Operation))
     → Fails Gathers line_limit most_rounds before after NotListed → ⊥
 never_listed before after (counts, inl ungreeted) = ungreeted.3
 never_listed before after (counts, inr left) = elim left.6 [
-  | inl next ↦ elim next.2 [ inl front ↦ front.0 | inr taking ↦ taking.8 ]
+  | inl next ↦ elim next.3 [ inl front ↦ front.0 | inr taking ↦ taking.8 ]
   | inr unquit ↦ let other = unquit.fault_is in cc
 ]
 
@@ -92,7 +92,7 @@ never_far : (before after : Moment (List Operation))
     → Fails Gathers line_limit most_rounds before after FarAhead → ⊥
 never_far before after (counts, inl ungreeted) = ungreeted.3
 never_far before after (counts, inr left) = elim left.6 [
-  | inl next ↦ elim next.2 [ inl front ↦ front.0 | inr taking ↦ taking.8 ]
+  | inl next ↦ elim next.3 [ inl front ↦ front.0 | inr taking ↦ taking.8 ]
   | inr unquit ↦ let other = unquit.fault_is in cc
 ]
 
