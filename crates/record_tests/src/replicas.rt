@@ -369,7 +369,7 @@ fn second_seq(replica: &Replica) -> Option<u64> {
 fn gains(replica: Replica) -> (usize, Option<u64>, bool) {
     let seqs = replica.iter().map(|op| op.stamp().seq());
     let are_all = seqs.eq([1, 4, 2, 3]);
-    (replica.arrivals(), second_seq(&replica), are_all)
+    (replica.len(), second_seq(&replica), are_all)
 }
 
 #[test]

@@ -263,7 +263,7 @@ fn assert_run(rt: &impl Abort, alloc: Global, world: &mut World, steps: &[(Step,
 
 /// Whether a site knows a change, where there is such a site.
 fn knows(world: &World, site: u16, change: u32) -> Option<bool> {
-    Some(world.replica(site)?.change(change).is_some())
+    Some(world.replica(site)?.state().change(change).is_some())
 }
 
 /// Of site 1: how far its front goes in its first row, how many operations it has, and whether it knows change 6.

@@ -3,14 +3,12 @@
 ghost use Rattle.std.specs.Prelude.{◌≡◌, ◌↔◌, ◌<◌, Some, IsTrue, IfOk, slice_get, MatchResult, List, drop, take, OnOk, OnErr};
 ghost use Rattle.std.specs.Prelude.{[], length, ℕ, slice_index_or, if◌then◌else◌};
 ghost use Rattle.std.specs.List.{Contains};
-ghost use Rattle.std.specs.Option.{option_copied};
-ghost use Rattle.std.specs.FinMap.{get};
 ghost use Rattle.review_ops.specs.Operation.{Operation};
 ghost use Rattle.replica_core.specs.Journal.{AreApart, all_arrived, has, has_stamp, arrived, taken_of};
 ghost use Rattle.replica_core.specs.InOrder.{IsInOrderOf};
 ghost use Rattle.replica_core.specs.Lines.{rows_of, row_of, IsFiled, IsLine, AreLines};
 ghost use Rattle.replica_core.specs.Searches.{with_place};
-ghost use Rattle.state_core.specs.State.{state_of, state_shown, with_effect};
+ghost use Rattle.state_core.specs.State.{state_of, with_effect};
 
 use super::arrivals::{Arrivals, Iter};
 use super::arriving::arrive;
@@ -18,11 +16,10 @@ use super::front::Row;
 use super::line::Line;
 use super::lines::{find_line, row_of};
 use super::taken::{Partly, Taken};
-use change_core::ChangeState;
 use chunk_list::ChunkList;
-use lattice_core::{Join, JoinMap, NoMemory};
+use lattice_core::{Join, NoMemory};
 use review_ops::{Op, Stamp};
-use state_core::{SharedChange, State};
+use state_core::State;
 use std::alloc::{Allocator, Global};
 use std::marker::Model;
 
@@ -187,13 +184,6 @@ impl<A: Allocator + Copy> Replica<A> {
         self.arrivals.len()
     }
 
-    /// How many operations the journal has, as `len`.
-    pub fn arrivals(&self) -> usize
-        ensures { result ≡ length self.now }
-    {
-        self.len()
-    }
-
     /// The operation at an index, from 0, in the order of arrival.
     pub fn arrival(&self, place: usize) -> &Op<A>
         requires { place < length self.now }
@@ -228,20 +218,6 @@ impl<A: Allocator + Copy> Replica<A> {
         ensures { result.now ≡ state_of self.now }
     {
         &self.state
-    }
-
-    /// The state of a change, if it has an operation. It costs O(log n) for n changes.
-    pub fn change(&self, number: u32) -> Option<&ChangeState<A>>
-        ensures { option_copied result ≡ get (state_of self.now) number }
-    {
-        self.state.change(number)
-    }
-
-    /// The state of each change that has an operation, by change number.
-    pub fn changes(&self) -> &JoinMap<u32, SharedChange<A>, A>
-        ensures { state_shown result.now ≡ state_of self.now }
-    {
-        self.state.changes()
     }
 }
 

@@ -113,12 +113,12 @@ impl Evaluator {
         let Some(kept) = self.verdicts.take() else {
             return self.start(replica);
         };
-        if self.seen == replica.arrivals() {
+        if self.seen == replica.len() {
             self.verdicts = Some(kept);
             return Ok(());
         }
         let verdicts = self.brought_up(replica, kept, judge)?;
-        self.seen = replica.arrivals();
+        self.seen = replica.len();
         self.verdicts = Some(verdicts);
         Ok(())
     }
@@ -141,7 +141,7 @@ impl Evaluator {
         let ready = items_of(alloc, ranks.as_slice())?;
         self.ranks = ranks;
         self.namers = namers;
-        self.seen = replica.arrivals();
+        self.seen = replica.len();
         self.verdicts = Some(Verdicts::new(ready, out));
         Ok(())
     }

@@ -99,7 +99,7 @@ fn op_at(time: u64, draft: Option<Draft>) -> Option<Op> {
 pub(super) fn take(replica: &mut Replica, draft: Option<Draft>) -> Option<()>
     ensures { OnSome result (Extends replica.old replica.new) }
 {
-    let time = (replica.arrivals() as u64).saturating_add(1);
+    let time = (replica.len() as u64).saturating_add(1);
     let op = op_at(time, draft)?;
     replica.take(op).ok()?;
     Some(())

@@ -94,7 +94,7 @@ impl<A: Allocator + Copy> Site<A> {
     pub fn save(&mut self)
         ensures { self.new ≡ record self.old { saved = self.old.journal } }
     {
-        self.saved = self.replica.arrivals();
+        self.saved = self.replica.len();
     }
 
     /// Goes back to what was saved last, under this start. It costs O(1) where nothing came since, else O(n log n) for
@@ -117,7 +117,7 @@ impl<A: Allocator + Copy> Site<A> {
         ensures ok { OnOk result (self.new ≡ record self.old { journal = self.old.saved }) }
         ensures err { OnErr result (self.new ≡ self.old) }
     {
-        if self.saved == self.replica.arrivals() {
+        if self.saved == self.replica.len() {
             return Ok(());
         }
         self.replica = replica_of_first(&self.replica, self.saved)?;

@@ -25,7 +25,7 @@ returns-clause-follows c =
     let kept = kept_on gate state c.new.result ranks c.add_graph.new.namers (ranked_all gate state graph.items found whole are ranks c.new.result.out c.into_lists-ranks.ensures.ranks out) nodes
     (subst (IsStrictlySortedBy (rank_cmp item_cmp)) (sym c.into_lists-ranks.ensures.ranks) c.in_ok-found.ensures.rising) (names_all gate state graph is c.add_graph.new.namers c.in_ok-add_graph.ensures.names whole) in
     record {
-      seen = c.arrivals-self-inside.ensures;
+      seen = c.len-self-inside.ensures;
       judged = c.new.result;
       there = refl;
       verdicts = kept.0;
