@@ -1,30 +1,20 @@
-//! Feeds of sites that answer by a script, in this process or over sockets of this machine.
+//! Feeds of sites that answer by a script, in this process.
 
 use super::asserts::assert_found;
 use byte_ends::{Broken, Drain, Ends};
 use event_feed::{FeedFault, Input};
 use feed_client::{
-    FedSite, FeedOrder, Feeds, Intake, IntakeFault, Listing, Noted, Refusal, SiteFeed,
-    complete_site, feed_site, feed_to, read_answer,
+    Intake, IntakeFault, Listing, Noted, Refusal, SiteFeed, complete_site, feed_site, read_answer,
 };
 use footer_text::Bases;
 use gerrit_events::Projects;
 use op_text::{read_op, write_body};
 use replica_core::Missing;
 use review_ops::{Body, Op, Stamp};
-use running_sites::{AS_WRITTEN, NO_KEYS, Stage, listening};
-use site_address::{Address, HostPort};
 use state_core::State;
 use std::alloc::Global;
-use std::io::Read;
-use std::net::{Net, TcpListener, TcpStream};
 use std::process::Abort;
-use std::random::RandomSource;
-use std::sync::Wait;
 use std::test::Fail;
-use std::thread::Threads;
-use std::time::Clock;
-use std::{io, thread};
 
 /// A patch set, a vote beside a withdrawn one that never was, a bad line, a merge, and an abandon of another change.
 const EVENTS: &str = concat!(
@@ -55,7 +45,7 @@ const BODIES: &str = concat!(
     "\n",
 );
 
-pub const BAD_LINE: &str = "reviewgate: events 1 BadEvent 3 line\n";
+const BAD_LINE: &str = "reviewgate: events 1 BadEvent 3 line\n";
 
 /// A site that notes what it is offered, answers one of its offers so, and tells of some operations before the first
 /// line.
@@ -452,164 +442,6 @@ fn answers_are_read(rt: HostRuntime) -> Result<(), Fail> {
     assert_found(&rt, read_answer(rt.alloc(), line), Ok(stamp));
     for (line, fault) in ANSWERS {
         assert_found(&rt, read_answer(rt.alloc(), line.as_bytes()), Err(fault));
-    }
-    Ok(())
-}
-
-/// How a feed of a site ended, what it said on its output, and what was reported.
-pub type Ending = (Result<(), FeedFault>, Vec<u8>, Vec<u8>);
-
-/// How a feed ended, and whether it said and reported just what is wanted.
-pub type Fed = (Result<(), FeedFault>, bool, bool);
-
-/// How a feed went, of which this is to be said, and that reported.
-pub fn went(fed: Ending, said: &str, reported: &str) -> Fed {
-    let (ended, output, errors) = fed;
-    let is_said = output.as_slice() == said.as_bytes();
-    (ended, is_said, errors.as_slice() == reported.as_bytes())
-}
-
-/// Feeds an input to the site at a port.
-pub fn feed_from<R, I>(rt: R, alloc: Global, port: u16, feeds: Feeds, input: I) -> Ending
-where
-    R: Net<Stream = TcpStream> + Threads + Wait + Clock + RandomSource + Copy + Send + 'static,
-    I: Read + Send + Drop + 'static,
-{
-    feed_site_from(rt, alloc, FedSite::Here(Address::Port(port)), feeds, input)
-}
-
-/// Feeds an input to a site.
-fn feed_site_from<R, I>(rt: R, alloc: Global, site: FedSite<'_>, feeds: Feeds, input: I) -> Ending
-where
-    R: Net<Stream = TcpStream> + Threads + Wait + Clock + RandomSource + Copy + Send + 'static,
-    I: Read + Send + Drop + 'static,
-{
-    let order = FeedOrder {
-        site,
-        feeds,
-        projects: Projects::all(),
-        bases: None,
-    };
-    let (mut output, mut errors) = (Ends::new(Vec::new(alloc)), Ends::new(Vec::new(alloc)));
-    let input = Ends::new(input);
-    let ended = feed_to(rt, alloc, order, input, &mut output, &mut errors);
-    (ended, output.into_inner(), errors.into_inner())
-}
-
-/// Feeds the events to the site at a port of this machine, over a connection that is sealed by a secret.
-pub fn feed_sealed<R>(rt: R, alloc: Global, port: u16, secret: [u8; 32]) -> Ending
-where
-    R: Net<Stream = TcpStream> + Threads + Wait + Clock + RandomSource + Copy + Send + 'static,
-{
-    let at = HostPort {
-        host: "127.0.0.1",
-        port,
-    };
-    let site = FedSite::There { at, secret };
-    feed_site_from(rt, alloc, site, Feeds::Stream, EVENTS.as_bytes())
-}
-
-/// Feeds the events to the site at a port.
-pub fn feed<R>(rt: R, alloc: Global, port: u16) -> Ending
-where
-    R: Net<Stream = TcpStream> + Threads + Wait + Clock + RandomSource + Copy + Send + 'static,
-{
-    feed_from(rt, alloc, port, Feeds::Stream, EVENTS.as_bytes())
-}
-
-/// A site with nothing, whose record is pulled.
-const PULLED: &str = r#"
-gone accepts
-gone < hello 2
-gone > hello 2
-gone < front []
-gone > done
-"#;
-
-/// How a feed goes whose site goes so once its record is pulled, which is to say this and report nothing; and whether all
-/// went as it is written.
-fn feed_beside<R, I>(rt: R, feeds: Feeds, input: I, goes: &str, said: &str) -> Option<(Fed, bool)>
-where
-    R: Net<Listener = TcpListener, Stream = TcpStream> + Threads + Wait + Clock,
-    R: RandomSource + AllocGlobal + Copy + Send + Sync + 'static,
-    I: Read + Send + Drop + 'static,
-{
-    let mut stage = Stage::new(rt, rt.alloc(), NO_KEYS);
-    let mut is_well = stage.play("peer gone").as_str() == AS_WRITTEN;
-    let port = stage.port("gone")?;
-    let fed = thread::spawn(&rt, move || feed_from(rt, rt.alloc(), port, feeds, input)).ok()?;
-    is_well &= stage.play(PULLED).as_str() == AS_WRITTEN;
-    is_well &= stage.play(goes).as_str() == AS_WRITTEN;
-    drop(stage);
-    Some((went(fed.join(&rt), said, ""), is_well))
-}
-
-/// Sites that note that Gerrit was heard or don't know of that, and answer so to the first body, and then go.
-const GOES: [&str; 5] = [
-    "gone hears a line\ngone > noted\ngone hears a line\ngone leaves",
-    "gone hears a line\ngone > noted\ngone hears a line\ngone > what\ngone leaves",
-    "gone hears a line\ngone > noted\ngone hears a line\ngone + ok 1,2,3,\ngone leaves",
-    "gone hears a line\ngone > noted\ngone hears a line\ngone > no 11 Else\ngone leaves",
-    "gone hears a line\ngone > no 6 BadCommand\ngone hears a line\ngone > no 11 Else\ngone leaves",
-];
-
-#[test]
-fn the_end_of_a_site_ends_the_feed(rt: HostRuntime) {
-    let ended = (Err(FeedFault::Ended), true, true);
-    for goes in GOES {
-        let found = feed_beside(
-            rt,
-            Feeds::Stream,
-            EVENTS.as_bytes(),
-            goes,
-            "pulled 0\nask 7\n",
-        );
-        assert_found(&rt, found, Some((ended, true)));
-    }
-}
-
-/// A site that answers anything else where it should note that Gerrit was heard is none.
-#[test]
-fn a_site_notes_that_gerrit_was_heard(rt: HostRuntime) {
-    let ended = (Err(FeedFault::Ended), true, true);
-    for goes in [
-        "gone hears a line\ngone > ok 1,2,3,4\ngone leaves",
-        "gone hears a line\ngone > no 7 BadText\ngone leaves",
-    ] {
-        let found = feed_beside(rt, Feeds::Stream, EVENTS.as_bytes(), goes, "pulled 0\n");
-        assert_found(&rt, found, Some((ended, true)));
-    }
-}
-
-#[test]
-fn a_port_without_a_site_is_refused(rt: HostRuntime) -> Result<(), Fail> {
-    let (listener, port) = listening(&rt)?;
-    drop(listener);
-    let fed = feed(rt, rt.alloc(), port);
-    assert_found(&rt, went(fed, "", ""), (Err(FeedFault::NoSite), true, true));
-    Ok(())
-}
-
-/// An input that is silent until something is sent, and what sends it.
-pub fn silent_input<R>(rt: &R) -> io::Result<(TcpStream, TcpStream)>
-where
-    R: Net<Listener = TcpListener, Stream = TcpStream>,
-{
-    let (listener, port) = listening(rt)?;
-    let sender = TcpStream::connect(rt, ("127.0.0.1", port))?;
-    let (input, _address) = listener.accept()?;
-    Ok((sender, input))
-}
-
-/// Where the session ends while the input is silent the feed does, also one of a query.
-#[test]
-fn a_feed_sees_the_end_of_its_session(rt: HostRuntime) -> Result<(), Fail> {
-    let ended = (Err(FeedFault::Ended), true, true);
-    for feeds in [Feeds::Stream, Feeds::Query, Feeds::Complete] {
-        let (sender, input) = silent_input(&rt)?;
-        let found = feed_beside(rt, feeds, input, "gone leaves", "pulled 0\n");
-        drop(sender);
-        assert_found(&rt, found, Some((ended, true)));
     }
     Ok(())
 }

@@ -2,7 +2,7 @@
 //!
 //! Its tests are in the crate `site_tests`.
 //!
-//! Those over sockets are in the crate `serve_tests`.
+//! Those over sockets are plays of running sites, in `plays`.
 //!
 //! It is a crate of its own so that `console`, and with it all commands, need no sockets. Not taken: a session command
 //! that sends a snapshot (a pull does the same, and every site answers it), and a pull that starts from the front of a

@@ -1,6 +1,6 @@
 //! `serve`: runs a site as a program, from reading its files and listening to saving its snapshot.
 //!
-//! Its tests are in the crate `program_tests`.
+//! Its tests are texts for the running program, in `plays`.
 //!
 //! It is a crate of its own so that the order of steps at a site's start and end is proved over any tape and any
 //! output. Not taken: daemon mode, privileges and log files, which systemd does.

@@ -2,6 +2,8 @@
 //!
 //! Its tests are in the crate `serve_tests`.
 //!
+//! Those over a running program are plays, in `plays`.
+//!
 //! It is a crate of its own so that threads and sockets are in one place. Not taken: a thread for each session (silent
 //! clients would use up the threads), `tokio` and `hyper` (a runtime of futures around one loop over `mio`), and a
 //! second thread between sockets and desk, which would have to be woken for each `take`.
