@@ -191,6 +191,12 @@ const LISTINGS: &[Case] = &[
         Found::Lists(7, 1, &[("verified", "zuul"), ("code-review", "bob")]),
         "",
     ),
+    // What counts for the patch set is withdrawn first, whatever its label is.
+    (
+        &[VETO, APPROVED],
+        Found::Lists(7, 1, &[]),
+        "{\"change\":7,\"label\":\"verified\",\"op\":\"withdraw\",\"set\":1,\"voter\":\"zuul\"}\n{\"change\":7,\"label\":\"code-review\",\"op\":\"withdraw\",\"set\":1,\"voter\":\"bob\"}\n",
+    ),
     (&[VETO], Found::Lists(7, 2, &[]), ""),
     (&[VETO], Found::Lists(8, 1, &[]), ""),
     (
