@@ -11,18 +11,6 @@ Completes whole left done = (rest : List Deed) → AreBodies left rest → AreBo
 pub completed : (whole done : List Deed) → Completes whole [] done → AreBodies whole done
 completed whole done completes = subst (AreBodies whole) (append-nil done) (completes [] refl)
 
--- the bodies of some items, and then those of others, are the bodies of all of them
-pub both_bodies : {X : Type 0} (deed_of : X → Deed) (ones others : List X) (first second : List Deed)
-    → AreBodies (map deed_of ones) first → AreBodies (map deed_of others) second
-    → AreBodies (map deed_of (ones ++ others)) (first ++ second)
-both_bodies deed_of [] others first second none are =
-    subst (λ bodies. AreBodies (map deed_of others) (bodies ++ second)) (sym none) are
-both_bodies deed_of (one ∷ ones) others first second (inl kept) are =
-    inl
-    (kept.0 ++ second, kept.1, ap (λ bodies. bodies ++ second) kept.2, both_bodies deed_of ones others kept.0 second kept.3 are)
-both_bodies deed_of (one ∷ ones) others first second (inr none) are =
-    inr (none.0, both_bodies deed_of ones others first second none.1 are)
-
 module _ (whole : List Deed) (deed : Deed) (left done new : List Deed) where
   one_more : Completes whole (deed ∷ left) done → AddsDeed deed done new → Completes whole left new
   one_more completes (inl kept) = λ rest bodies.

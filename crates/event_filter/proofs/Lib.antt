@@ -2,6 +2,8 @@ mod Registers
 mod Alike
 mod After
 pub mod Bodies
+pub mod Lowered
+pub mod Meanwhile
 pub mod Asks
 pub mod Children
 pub mod Frames

@@ -1,5 +1,5 @@
 -- What a record says once it has met what was found in a line.
-use Rattle.std.specs.Prelude.{◌≡◌, ◌≢◌, ◌⊎◌, ◌==◌, ◌||◌, ℕ, ℤ, pos, true, false, not, List, [], ◌∷◌, ◌++◌, ◌&&◌}
+use Rattle.std.specs.Prelude.{◌≡◌, ◌≢◌, ◌⊎◌, ◌==◌, ◌||◌, ℕ, ℤ, pos, true, false, not, List, [], ◌∷◌}
 use Rattle.std.specs.Prelude.{if◌then◌else◌, Option, None, Some, Contains, map}
 use Rattle.std.specs.Char.{to_ascii_lowercase}
 use Rattle.std.specs.FinMap.{entries, get}
@@ -7,7 +7,6 @@ use Rattle.std.specs.List.{filter}
 use Rattle.std.specs.Ordering.{int_eq, eq_by_cmp}
 use Rattle.std.proofs.Common.{refl, sym, ap, ◌∙◌, subst, inl, inr}
 use Rattle.std.proofs.lemmas.Bool.{eq-eqb, false≢true}
-use Rattle.std.proofs.lemmas.List.Elements.{Contains-append_left, Contains-append_right}
 use Rattle.lattice_core.specs.EntryLaws.{entry-get}
 use Rattle.lattice_core.specs.Exact.{same_by_test, test_of_same}
 use Rattle.lattice_core.specs.Keep.{integers_exact}
@@ -25,12 +24,11 @@ use Rattle.change_core.specs.declared.life.Life.{Life}
 use Rattle.change_core.specs.declared.life.Life.TheVariants as life
 use Rattle.change_core.specs.declared.life.Status.TheVariants.{Merged}
 use Rattle.state_core.specs.State.{State, with_effect}
-use Rattle.gerrit_events.specs.Listings.{Ballot, Listing, listing_shown}
+use Rattle.gerrit_events.specs.Listings.{Listing, listing_shown}
 use Rattle.gerrit_events.specs.declared.finding.Finding.{Finding}
 use Rattle.gerrit_events.specs.declared.finding.Finding.TheVariants.{Brings, Shows, Lists, Refuses}
-use Rattle.event_filter.specs.Against.{is_below_zero}
-use Rattle.event_filter.specs.Bringing.{AddsTo, AreBodies, IsBrought, IsNews, IsSaidByRecord, beyond, is_listed_vote}
-use Rattle.event_filter.specs.Bringing.{is_unlisted, is_withdrawn, unlisted, withdrawal}
+use Rattle.event_filter.specs.Bringing.{AddsTo, AreBodies, IsBrought, IsNews, IsSaidByRecord, beyond, is_listed_vote, is_unlisted}
+use Rattle.event_filter.specs.Bringing.{withdrawal}
 use Rattle.event_filter.specs.Newest.{IsNewest}
 use Rattle.event_filter.specs.Recorded.{IsRecorded, change_at, patch_at, score_by}
 use Rattle.event_filter.specs.Truth.{AgreesWithAll, AreMet, AreNothingNew, AreTakenIn, IsNothingNew}
@@ -161,7 +159,7 @@ brought_apart state (Shows deed) bodies place brought unspoken = elim brought [
 ]
 brought_apart state (Lists listing) bodies place brought unspoken =
     withdrawals_apart (listing_shown listing)
-    (unlisted (listing_shown listing).ballots (approvals_of (change_at state listing.change) listing.set))
+    (filter (is_unlisted (listing_shown listing).ballots) (approvals_of (change_at state listing.change) listing.set))
     bodies place brought unspoken
 brought_apart state (Refuses fault) bodies place none unspoken = none_apart bodies place none
 
@@ -188,7 +186,7 @@ said_brought state mid deed bodies brought taken = elim brought [
 -- ---- a listing
 
 -- two slots, one or not
-same_or_not : (a b : Slot) → (a ≡ b) ⊎ ¬ (a ≡ b)
+pub same_or_not : (a b : Slot) → (a ≡ b) ⊎ ¬ (a ≡ b)
 same_or_not a b = elim (eq_by_cmp slot_cmp a b) as (λ t. eq_by_cmp slot_cmp a b ≡ t → (a ≡ b) ⊎ ¬ (a ≡ b)) [
   | true ↦ λ e. inl (same_by_test slots_exact a b e)
   | false ↦ λ e. inr
@@ -283,29 +281,16 @@ zero_or_not value = elim (int_eq value (pos 0)) as (λ t. int_eq value (pos 0) �
   | false ↦ λ e. inr (ap not e)
 ] refl
 
--- a vote that isn't listed is among these, whether it is below 0 or not
-is_unlisted_vote : (ballots : List Ballot) (approvals : List GivenApproval) (given : GivenApproval)
-    → Contains approvals given → is_unlisted ballots given ≡ true → Contains (unlisted ballots approvals) given
-is_unlisted_vote ballots approvals given has apart =
-    let above = filter (is_withdrawn false ballots) approvals in
-    let against = filter (is_withdrawn true ballots) approvals in
-    elim (is_below_zero given.value) as (λ below. is_below_zero given.value ≡ below → Contains (above ++ against) given) [
-      | true ↦ λ is. Contains-append_right above against given
-          (Contains-to_filter (is_withdrawn true ballots) approvals given has (ap (λ t. t && is_unlisted ballots given) is ∙ apart))
-      | false ↦ λ is. Contains-append_left above against given
-          (Contains-to_filter (is_withdrawn false ballots) approvals given has
-          (ap (λ t. not t && is_unlisted ballots given) is ∙ apart))
-    ] refl
-
 -- a score that isn't 0 and isn't listed is among what is beyond
 is_beyond : (c : Change) (listing : Listing) (label voter : List ℕ) (stamp : Timestamp) (value : ℤ)
     → get c.votes (record { set = listing.set; label = label; voter = voter }) ≡ Some (stamp, value)
     → not (int_eq value (pos 0)) ≡ true → is_listed_vote listing.ballots label voter ≡ false
-    → Contains (unlisted listing.ballots (approvals_of c listing.set)) (record { label = label; voter = voter; value = value })
-is_beyond c listing label voter stamp value found counts apart =
+    → Contains (filter (is_unlisted listing.ballots) (approvals_of c listing.set))
+    (record { label = label; voter = voter; value = value })
+is_beyond c listing label voter stamp value found counts unlisted =
     let slot : Slot = record { set = listing.set; label = label; voter = voter } in
     let given : GivenVote = record { label = label; voter = voter; value = value; stamp = stamp } in
-    is_unlisted_vote listing.ballots (approvals_of c listing.set)
+    Contains-to_filter (is_unlisted listing.ballots) (approvals_of c listing.set)
     (record { label = label; voter = voter; value = value })
     (Contains-to_map approval_of (filter (λ vote. not (int_eq vote.value (pos 0))) (votes_of c listing.set)) given
     (Contains-to_filter (λ vote. not (int_eq vote.value (pos 0))) (votes_of c listing.set) given
@@ -313,17 +298,17 @@ is_beyond c listing label voter stamp value found counts apart =
     (Contains-to_filter (λ register. register.0.set == listing.set) (entries c.votes) (slot, (stamp, value))
     (entry-get slots_exact c.votes slot (stamp, value) found) (eq-eqb listing.set listing.set refl)))
     counts))
-    (ap not apart)
+    (ap not unlisted)
 
 listed_now : (state mid : State) (listing : Listing) (bodies : List Deed)
     → AreBodies (beyond (change_at state listing.change) listing) bodies → AreTakenIn state bodies mid
     → (label voter : List ℕ) → IsGood (withdraw listing.change listing.set label voter)
     → is_listed_vote listing.ballots label voter ≡ false
     → IsRecorded mid (withdraw listing.change listing.set label voter)
-listed_now state mid listing bodies are taken label voter good apart =
+listed_now state mid listing bodies are taken label voter good unlisted =
     let c = change_at state listing.change in
     let slot : Slot = record { set = listing.set; label = label; voter = voter } in
-    let all = withdrawals_of listing.change listing.set (unlisted listing.ballots (approvals_of c listing.set)) bodies are in
+    let all = withdrawals_of listing.change listing.set (filter (is_unlisted listing.ballots) (approvals_of c listing.set)) bodies are in
     zero_after all.slots state mid listing.change slot (subst (λ ds. AreTakenIn state ds mid) all.same taken)
     (elim (get c.votes slot) as (λ found. get c.votes slot ≡ found → (score_by (get c.votes slot) ≡ pos 0) ⊎ Contains all.slots slot) [
       | None ↦ λ found. inl (ap score_by found)
@@ -331,7 +316,7 @@ listed_now state mid listing bodies are taken label voter good apart =
         | inl zero ↦ inl (ap score_by found ∙ zero)
         | inr counts ↦ inr
             (all.has (record { label = label; voter = voter; value = register.1 })
-            (is_beyond c listing label voter register.0 register.1 found counts apart) good)
+            (is_beyond c listing label voter register.0 register.1 found counts unlisted) good)
       ]
     ] refl)
 

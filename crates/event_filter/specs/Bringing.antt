@@ -1,5 +1,5 @@
 -- What a finding brings to a record: what the record doesn't say of it.
-use Rattle.std.specs.Prelude.{◌≡◌, ◌⊎◌, ◌≤◌, ℕ, List, [], ◌∷◌, ◌++◌, Option, Some, None, Bool, true, false, ◌&&◌, cond, not, map}
+use Rattle.std.specs.Prelude.{◌≡◌, ◌⊎◌, ◌≤◌, ℕ, List, [], ◌∷◌, ◌++◌, Option, Some, None, Bool, ◌&&◌, not, map}
 use Rattle.std.specs.List.{filter, list_any}
 use Rattle.std.specs.Str.{bytes_eq}
 use Rattle.review_ops.specs.Deed.{Deed, patch_set, withdraw, kept_deed}
@@ -12,7 +12,6 @@ use Rattle.state_core.specs.State.{State}
 use Rattle.gerrit_events.specs.Listings.{Ballot, Listing, listing_shown}
 use Rattle.gerrit_events.specs.declared.finding.Finding.{Finding}
 use Rattle.gerrit_events.specs.declared.finding.Finding.TheVariants.{Brings, Shows, Lists, Refuses}
-use Rattle.event_filter.specs.Against.{is_below_zero}
 use Rattle.event_filter.specs.Recorded.{IsRecorded, change_at, patch_at}
 use Rattle.event_filter.specs.Newest.{IsOpenTo}
 
@@ -49,21 +48,11 @@ is_unlisted ballots approval = not (is_listed_vote ballots approval.label approv
 abbrev pub withdrawal : ℕ → ℕ → GivenApproval → Deed
 withdrawal change set approval = withdraw change set approval.label approval.voter
 
--- the vote isn't listed; and it is below 0, or isn't, as is asked for
-abbrev pub is_withdrawn : Bool → List Ballot → GivenApproval → Bool
-is_withdrawn below ballots approval =
-    cond below (is_below_zero approval.value) (not (is_below_zero approval.value)) && is_unlisted ballots approval
-
--- the votes that aren't listed: those above 0, and then those below it, so that a patch set isn't ready for a moment
--- since a veto is withdrawn before the approvals that are withdrawn with it
-abbrev pub unlisted : List Ballot → List GivenApproval → List GivenApproval
-unlisted ballots approvals =
-    filter (is_withdrawn false ballots) approvals ++ filter (is_withdrawn true ballots) approvals
-
 -- a withdrawal of each vote on the patch set that isn't listed
 abbrev pub beyond : Change → Listing → List Deed
 beyond change listing =
-    map (withdrawal listing.change listing.set) (unlisted listing.ballots (approvals_of change listing.set))
+    map (withdrawal listing.change listing.set)
+    (filter (is_unlisted listing.ballots) (approvals_of change listing.set))
 
 -- the bodies of deeds, in order; a deed with a fault has none
 abbrev pub AreBodies : List Deed → List Deed → Type 0

@@ -3,6 +3,7 @@ pub mod Newest
 pub mod Bringing
 pub mod Vanishing
 pub mod Asking
-pub mod Against
+pub mod Lowering
 pub mod Truth
 pub mod Rows
+pub mod Meanwhile

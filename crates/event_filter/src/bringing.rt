@@ -1,13 +1,12 @@
 //! The bodies that a finding adds to a record.
 
-ghost use Rattle.std.specs.Prelude.{◌≡◌, ◌↔◌, ◌≤◌, ℕ, [], ◌∷◌, IfOk, IsTrue, OnOk, filter, map};
+ghost use Rattle.std.specs.Prelude.{◌≡◌, ◌↔◌, ◌≤◌, ℕ, [], ◌∷◌, IfOk, IsTrue, OnOk, map};
 ghost use Rattle.review_ops.specs.Draft.{deed_of};
 ghost use Rattle.change_core.specs.Views.{IsKnownSet};
-ghost use Rattle.change_core.specs.Votes.{approvals_of};
 ghost use Rattle.change_core.specs.VoteShown.{approval_shown};
 ghost use Rattle.gerrit_events.specs.Listings.{listing_shown, ballot_shown};
 ghost use Rattle.event_filter.specs.Bringing.{AddsDeed, AddsTo, AreBodies, IsBrought, IsNews, IsSaidByRecord, Unless};
-ghost use Rattle.event_filter.specs.Bringing.{Where, beyond, is_ballot_of, is_listed_vote, is_withdrawn, withdrawal};
+ghost use Rattle.event_filter.specs.Bringing.{Where, beyond, is_ballot_of, is_listed_vote, withdrawal};
 ghost use Rattle.event_filter.specs.Newest.{IsOpenTo};
 ghost use Rattle.event_filter.specs.Recorded.{change_at, patch_at};
 
@@ -22,9 +21,9 @@ use std::alloc::Global;
 /// What a finding brings to a record, in order: a body that the record doesn't say, or could not say, as a merged
 /// change is neither abandoned nor restored; a patch set that an event shows, where the record hasn't it and no later
 /// one, or has it with this message and without the parent that is known; and of a listing a withdrawal of
-/// each vote on the patch set that the record has and it hasn't, those below 0 last. Refused is only memory. It costs
-/// O(log n + m) for n changes, patch sets and votes and m bytes of texts, and for a listing of b ballots O(b) beside for
-/// each vote of the patch set.
+/// each vote on the patch set that the record has and it hasn't. Refused is only memory. It costs O(log n + m) for n
+/// changes, patch sets and votes and m bytes of texts, and for a listing of b ballots O(b) beside for each vote of the
+/// patch set.
 pub fn brought(alloc: Global, state: &State, finding: Finding) -> Result<Vec<Body>, NoMemory>
     ensures { IfOk result (λ bodies. IsBrought state.now finding bodies.items) }
 {
@@ -131,7 +130,7 @@ fn is_latest(change: &ChangeState, set: u32) -> bool
 }
 
 /// A withdrawal of each vote on a patch set that isn't listed.
-fn withdrawals(alloc: Global, state: &State, listing: &Listing) -> Result<Vec<Body>, NoMemory>
+pub fn withdrawals(alloc: Global, state: &State, listing: &Listing) -> Result<Vec<Body>, NoMemory>
     ensures { IfOk result (λ bodies. AreBodies
         (beyond (change_at state.now listing.now.change) (listing_shown listing.now)) bodies.items) }
 {
@@ -141,7 +140,7 @@ fn withdrawals(alloc: Global, state: &State, listing: &Listing) -> Result<Vec<Bo
     }
 }
 
-/// A withdrawal of each vote on a patch set of a change that isn't listed: of those above 0, and then of those below it.
+/// A withdrawal of each vote on a patch set of a change that isn't listed.
 fn withdrawals_of(
     alloc: Global,
     change: &ChangeState,
@@ -149,39 +148,13 @@ fn withdrawals_of(
 ) -> Result<Vec<Body>, NoMemory>
     ensures { IfOk result (λ bodies. AreBodies (beyond change.now (listing_shown listing.now)) bodies.items) }
 {
-    let mut bodies = withdrawals_where(alloc, change, listing, false)?;
-    let mut against = withdrawals_where(alloc, change, listing, true)?;
-    bodies.append(&mut against)?;
-    Ok(bodies)
-}
-
-/// A withdrawal of each vote that isn't listed: of those below 0, or of the others.
-fn withdrawals_where(
-    alloc: Global,
-    change: &ChangeState,
-    listing: &Listing,
-    below: bool,
-) -> Result<Vec<Body>, NoMemory>
-    ensures { IfOk result (λ bodies. AreBodies (map (withdrawal listing.now.change listing.now.set)
-        (filter (is_withdrawn below (listing_shown listing.now).ballots) (approvals_of change.now listing.now.set)))
-        bodies.items) }
-{
     let mut bodies = Vec::new(alloc);
     for approval in change.approvals(listing.set) {
-        if is_withdrawn(listing.ballots.as_slice(), &approval, below) {
+        if !is_listed(listing.ballots.as_slice(), approval.label, approval.voter) {
             add_withdrawal(alloc, &mut bodies, listing.change, listing.set, &approval)?;
         }
     }
     Ok(bodies)
-}
-
-/// Whether a vote isn't listed, and is below 0 if that is asked for, or else isn't.
-fn is_withdrawn(ballots: &[Ballot], approval: &Approval<'_>, below: bool) -> bool
-    ensures { result ≡ is_withdrawn below (map ballot_shown ballots.now) (approval_shown approval.now) }
-{
-    let is_below = approval.value < 0;
-    let is_wanted = if below { is_below } else { !is_below };
-    is_wanted && !is_listed(ballots, approval.label, approval.voter)
 }
 
 /// Adds the withdrawal of a vote.

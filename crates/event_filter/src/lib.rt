@@ -18,21 +18,22 @@
 //! ```
 #![tactic(auto)]
 
-mod against;
 mod asking;
 mod bringing;
 mod laws;
+mod lowering;
 mod recorded;
 mod vanishing;
 
-pub use against::against_first;
 pub use asking::asked;
 pub use bringing::{brought, is_moot};
 pub use laws::{
-    what_a_row_says_is_what_the_record_says, what_is_kept_of_a_message_fits_a_body,
+    nothing_is_above_both, what_a_row_says_is_what_the_record_says,
+    what_comes_first_raises_nothing, what_is_kept_of_a_message_fits_a_body,
     what_is_kept_of_a_message_names_the_same, what_is_met_is_what_the_record_says,
     what_is_nothing_new_brings_nothing, what_is_recorded_changes_no_view,
     what_is_taken_in_is_recorded,
 };
+pub use lowering::lowering_first;
 pub use recorded::is_recorded;
 pub use vanishing::vanished;

@@ -80,11 +80,24 @@ fn has_score<A: Allocator + Copy>(
     ensures { IfOk result (λ has. IsTrue has ↔ (score_at change.now
         (record { set = set; label = string_bytes label.now; voter = string_bytes voter.now }) ≡ value)) }
 {
+    Ok(score_by(change, set, label, voter)? == value)
+}
+
+/// A voter's score of a label on a patch set; no vote is one of 0.
+pub fn score_by<A: Allocator + Copy>(
+    change: &ChangeState<A>,
+    set: u32,
+    label: &String<A>,
+    voter: &String<A>,
+) -> Result<i8, NoMemory>
+    ensures { IfOk result (λ score. score ≡ score_at change.now
+        (record { set = set; label = string_bytes label.now; voter = string_bytes voter.now })) }
+{
     let label = label.copy()?;
     let voter = voter.copy()?;
     match change.all_votes().get(&VoteSlot { set, label, voter }) {
-        Some(held) => Ok(*held.value() == value),
-        None => Ok(value == 0),
+        Some(held) => Ok(*held.value()),
+        None => Ok(0),
     }
 }
 

@@ -9,10 +9,11 @@ use Rattle.event_feed.specs.Feed.{Feeds, gerrit_line_limit}
 use Rattle.event_feed.specs.declared.fault.FeedFault.{FeedFault}
 use Rattle.event_feed.specs.declared.fault.FeedFault.TheVariants.{WriteFault, NoMemory}
 use Rattle.event_feed.specs.declared.progress.Input.{Input}
-use Rattle.event_filter.specs.Against.{against_first}
 use Rattle.event_filter.specs.Asking.{AsksFor}
+use Rattle.event_filter.specs.Lowering.{ArePutInOrder}
 use Rattle.gerrit_events.specs.Projects.{Choice}
 use Rattle.gerrit_events.specs.Reading.{ParsedLine}
+use Rattle.gerrit_events.specs.declared.finding.Finding.{Finding}
 use Rattle.gerrit_events.specs.declared.part.Part.{Part}
 use Rattle.gerrit_events.specs.declared.part.Part.TheVariants.{Event}
 use Rattle.review_ops.specs.Deed.{Deed}
@@ -73,12 +74,17 @@ LearnsNews answers old new (Err fault) =
     × (new.place.errors ≡ old.place.errors) × (new.output ≡ old.output) × (new.bases ≡ old.bases)
 
 module _ {Site : Type 0} (replies : Site → Deed → Result Timestamp IntakeFault → Site → Type 0) where
-  -- the lines that ask for these changes are written, and then the findings are processed, votes below 0 first; if
-  -- those lines are cut short, none is processed
+  -- the findings are processed, what lowers an item first
+  abbrev pub MeetsInOrder : ℕ → List Finding → FeedPlace Site → FeedPlace Site → Result (Unit {0}) FeedFault → Type 0
+  MeetsInOrder number findings old new result =
+      (met : List Finding) × ArePutInOrder old.state findings met × InTurn (Meets replies number) met old new result
+
+  -- the lines that ask for these changes are written, and then the findings are processed; if those lines are cut short,
+  -- none is processed
   abbrev pub AsksAndMeets : ℕ → BTreeSet ℕ → ParsedLine → Seen Site → Seen Site → Result (Unit {0}) FeedFault → Type 0
   AsksAndMeets number asks parsed old new result =
       (IsWritten (asked_lines parsed.part asks.keys) old.output new.output
-      × InTurn (Meets replies number) (against_first parsed.findings) old.place new.place result)
+      × MeetsInOrder number parsed.findings old.place new.place result)
       ⊎ (FeedIsCutShort (asked_lines parsed.part asks.keys) old.output new.output × (result ≡ Err WriteFault)
       × (new.place ≡ old.place))
 

@@ -9,7 +9,7 @@ use super::meet::meet_all;
 use super::pull::pull_all;
 use byte_ends::{Drain, Source};
 use event_feed::{FeedFault, Input, Taker, feed_lines, send};
-use event_filter::{against_first, asked};
+use event_filter::{asked, lowering_first};
 use footer_text::Bases;
 use gerrit_events::{ParsedLine, Part, Projects};
 use lattice_core::NoMemory;
@@ -60,7 +60,7 @@ impl<T: Intake, O: Drain, E: Drain> Taker for SiteFeed<T, O, E> {
         let Ok(text) = asked_lines(self.alloc, parsed.part, &asked) else {
             return Err(FeedFault::NoMemory);
         };
-        let Ok(findings) = against_first(self.alloc, parsed.findings) else {
+        let Ok(findings) = lowering_first(self.alloc, &self.state, parsed.findings) else {
             return Err(FeedFault::NoMemory);
         };
         match send(&mut self.output, text.as_str()) {
@@ -77,8 +77,8 @@ impl<T: Intake, O: Drain, E: Drain> Taker for SiteFeed<T, O, E> {
     }
 }
 
-/// Reads the lines of a source, as `event_feed::feed_lines` does, and offers the bodies of each to a site, votes below
-/// 0 first and then all in order, except what the state says already. What the site takes in is taken into the state,
+/// Reads the lines of a source, as `event_feed::feed_lines` does, and offers the bodies of each to a site, first what
+/// lowers a score or abandons a change and then all in order, except what the state says already. What the site takes in is taken into the state,
 /// too, and so is, before more of the source is read, what others brought to the site. The changes that have to be
 /// queried because of a line are written to the output before its bodies are offered, by number: as `ask N` where the
 /// line is an event of change N, and as `need N` otherwise. A loss of line n, counted from 1, is reported on standard

@@ -3,7 +3,8 @@
 use super::asserts::assert_found;
 use deeds::{Deed, draft_of, op_of};
 use event_filter::{
-    against_first, asked, brought, is_moot, vanished, what_a_row_says_is_what_the_record_says,
+    asked, brought, is_moot, lowering_first, nothing_is_above_both, vanished,
+    what_a_row_says_is_what_the_record_says, what_comes_first_raises_nothing,
     what_is_met_is_what_the_record_says, what_is_nothing_new_brings_nothing,
 };
 use footer_text::Bases;
@@ -190,12 +191,6 @@ const LISTINGS: &[Case] = &[
         &[VETO, APPROVED],
         Found::Lists(7, 1, &[("verified", "zuul"), ("code-review", "bob")]),
         "",
-    ),
-    // What counts for the patch set is withdrawn first, whatever its label is.
-    (
-        &[VETO, APPROVED],
-        Found::Lists(7, 1, &[]),
-        "{\"change\":7,\"label\":\"verified\",\"op\":\"withdraw\",\"set\":1,\"voter\":\"zuul\"}\n{\"change\":7,\"label\":\"code-review\",\"op\":\"withdraw\",\"set\":1,\"voter\":\"bob\"}\n",
     ),
     (&[VETO], Found::Lists(7, 2, &[]), ""),
     (&[VETO], Found::Lists(8, 1, &[]), ""),
@@ -603,16 +598,21 @@ fn bodies_in(alloc: Global, findings: &[Finding]) -> Option<String> {
     Some(text)
 }
 
-/// The bodies of findings, in the order in which a record processes them, and how many findings that order has.
-fn met_of(alloc: Global, found: &[Found]) -> Option<(String, usize)> {
-    let met = against_first(alloc, findings_of(alloc, found)?).ok()?;
-    Some((bodies_in(alloc, met.as_slice())?, met.len()))
+/// The bodies of findings, in the order in which the record of these deeds processes them: those that are put first, and
+/// then those of all findings.
+fn met_of(alloc: Global, record: &[(u32, Deed)], found: &[Found]) -> Option<(String, String)> {
+    let state = state_of(alloc, record)?;
+    let met = lowering_first(alloc, &state, findings_of(alloc, found)?).ok()?;
+    let count = met.len().checked_sub(found.len())?;
+    let (first, rest) = met.as_slice().split_at_checked(count)?;
+    Some((bodies_in(alloc, first)?, bodies_in(alloc, rest)?))
 }
 
 #[test]
 fn votes_below_0_are_met_first(rt: HostRuntime) {
     let met = met_of(
         rt.alloc(),
+        &[],
         &[
             Found::Brings(7, COMMIT),
             Found::Lists(7, 1, &[("l", "ann"), ("l", "bob")]),
@@ -622,12 +622,95 @@ fn votes_below_0_are_met_first(rt: HostRuntime) {
             Found::Refuses,
         ],
     );
-    let found = met.as_ref().map(|met| (met.0.as_str(), met.1));
-    let wanted = text_of_lines(
-        rt.alloc(),
-        &[VETO_TEXT, FIRST_TEXT, VOTE_TEXT, VETO_TEXT, GONE_TEXT],
+    let found = met.as_ref().map(|met| (met.0.as_str(), met.1.as_str()));
+    let rest = text_of_lines(rt.alloc(), &[FIRST_TEXT, VOTE_TEXT, VETO_TEXT, GONE_TEXT]);
+    assert_found(
+        &rt,
+        found,
+        rest.as_ref().map(|rest| (VETO_TEXT, rest.as_str())),
     );
-    assert_found(&rt, found, wanted.as_ref().map(|text| (text.as_str(), 7)));
+}
+
+/// A record, what is found in a line, and the bodies that are put first.
+type Order = (&'static [(u32, Deed)], &'static [Found], &'static str);
+
+const NO_APPROVAL: &str =
+    "{\"change\":7,\"label\":\"verified\",\"op\":\"withdraw\",\"set\":1,\"voter\":\"zuul\"}\n";
+
+const LESS: &str =
+    "{\"change\":7,\"label\":\"verified\",\"op\":\"vote\",\"set\":1,\"value\":0,\"voter\":\"zuul\"}\n";
+
+const ABANDON_TEXT: &str = "{\"change\":7,\"op\":\"abandon\"}\n";
+
+/// What lowers an item, and what doesn't.
+const ORDERS: &[Order] = &[
+    // A row lists neither the veto nor the approval, but a new approval.
+    (
+        &[VETO, APPROVED],
+        &[
+            Found::Brings(7, Deed::Vote(1, "workflow", "ann", 1)),
+            Found::Lists(7, 1, &[("workflow", "ann")]),
+        ],
+        NO_APPROVAL,
+    ),
+    // An event takes both back.
+    (
+        &[VETO, APPROVED],
+        &[
+            Found::Brings(7, Deed::Withdraw(1, "code-review", "bob")),
+            Found::Brings(7, Deed::Withdraw(1, "verified", "zuul")),
+        ],
+        NO_APPROVAL,
+    ),
+    // A veto becomes a vote of -1, and an approval one of 0.
+    (
+        &[VETO, APPROVED],
+        &[
+            Found::Brings(7, Deed::Vote(1, "code-review", "bob", -1)),
+            Found::Brings(7, Deed::Vote(1, "verified", "zuul", 0)),
+        ],
+        LESS,
+    ),
+    // What is recorded lowers nothing.
+    (
+        &[VETO, APPROVED],
+        &[
+            Found::Brings(7, Deed::Vote(1, "code-review", "bob", -2)),
+            Found::Brings(7, Deed::Vote(1, "verified", "zuul", 1)),
+            Found::Shows(7, COMMIT),
+        ],
+        "",
+    ),
+    (
+        &[FIRST],
+        &[
+            Found::Brings(7, Deed::Vote(1, "verified", "zuul", 1)),
+            Found::Brings(7, Deed::Abandon),
+        ],
+        ABANDON_TEXT,
+    ),
+    (
+        &[FIRST, (7, Deed::Abandon)],
+        &[Found::Brings(7, Deed::Abandon)],
+        "",
+    ),
+    (&[MERGED], &[Found::Brings(7, Deed::Abandon)], ""),
+    (
+        &[FIRST, (7, Deed::Abandon)],
+        &[Found::Brings(7, Deed::Restore)],
+        "",
+    ),
+    (&[FIRST], &[Found::Brings(7, Deed::Merged)], ""),
+];
+
+#[test]
+fn what_lowers_an_item_is_met_first(rt: HostRuntime) {
+    for (number, case) in (1u64..).zip(ORDERS) {
+        let (record, found, wanted) = *case;
+        let met = met_of(rt.alloc(), record, found);
+        let first = met.as_ref().map(|met| met.0.as_str());
+        assert_found(&rt, (number, first), (number, Some(wanted)));
+    }
 }
 
 /// Lines, one after the other.
@@ -693,7 +776,9 @@ fn open_changes_that_are_not_listed_have_vanished(rt: HostRuntime) {
 
 #[test]
 fn laws_are_called() {
+    nothing_is_above_both();
     what_a_row_says_is_what_the_record_says();
+    what_comes_first_raises_nothing();
     what_is_met_is_what_the_record_says();
     what_is_nothing_new_brings_nothing();
 }
