@@ -7,8 +7,6 @@ mod asserts;
 #[cfg(test)]
 mod calls;
 #[cfg(test)]
-mod dialogues;
-#[cfg(test)]
 mod refusals;
 #[cfg(test)]
 mod talks;
