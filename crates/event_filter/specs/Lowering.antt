@@ -1,5 +1,5 @@
 -- What lowers an item is processed before everything else of a line. The order is the project's own.
-use Rattle.std.specs.Prelude.{◌≡◌, pos, int_lt, Bool, true, false, List, [], ◌∷◌, ◌++◌, map, filter}
+use Rattle.std.specs.Prelude.{◌≡◌, pos, int_lt, Bool, true, false, not, List, [], ◌∷◌, ◌++◌, map, filter}
 use Rattle.review_ops.specs.Deed.{Deed, change_of, patch_set, vote, withdraw, abandon, restore, merged}
 use Rattle.change_core.specs.Change.{Change}
 use Rattle.change_core.specs.Views.{status_of}
@@ -53,3 +53,21 @@ AreAllLowering state (finding ∷ findings) bodies =
 abbrev pub ArePutInOrder : State → List Finding → List Finding → Type 0
 ArePutInOrder state findings met =
     (bodies : List Deed) × AreAllLowering state findings bodies × (met ≡ map Brings bodies ++ findings)
+
+-- ---- a line of an answer, of which the rest waits until the answer is whole
+
+abbrev pub is_loss : Finding → Bool
+is_loss (Brings deed) = false
+is_loss (Shows deed) = false
+is_loss (Lists listing) = false
+is_loss (Refuses fault) = true
+
+-- what is processed at once: the bodies that lower what the record says, and the losses of the line
+abbrev pub AreFirst : State → List Finding → List Finding → Type 0
+AreFirst state findings first =
+    (bodies : List Deed) × AreAllLowering state findings bodies × (first ≡ map Brings bodies ++ filter is_loss findings)
+
+-- and what waits
+abbrev pub AreParted : State → List Finding → List Finding → List Finding → Type 0
+AreParted state findings first later =
+    AreFirst state findings first × (later ≡ filter (λ finding. not (is_loss finding)) findings)

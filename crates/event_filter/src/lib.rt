@@ -34,6 +34,6 @@ pub use laws::{
     what_is_nothing_new_brings_nothing, what_is_recorded_changes_no_view,
     what_is_taken_in_is_recorded,
 };
-pub use lowering::lowering_first;
+pub use lowering::{lowering_first, parted};
 pub use recorded::is_recorded;
 pub use vanishing::vanished;

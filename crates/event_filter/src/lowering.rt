@@ -1,9 +1,9 @@
 //! The order in which a record processes the findings of a line.
 
-ghost use Rattle.std.specs.Prelude.{◌≡◌, IfOk, filter, map};
+ghost use Rattle.std.specs.Prelude.{◌≡◌, IfOk, filter, map, not};
 ghost use Rattle.review_ops.specs.Draft.{deed_of};
-ghost use Rattle.event_filter.specs.Lowering.{AreAllLowering, AreLowering, ArePutInOrder};
-ghost use Rattle.event_filter.specs.Lowering.{is_new_status, lowers, lowers_change};
+ghost use Rattle.event_filter.specs.Lowering.{AreAllLowering, AreLowering, AreParted, ArePutInOrder};
+ghost use Rattle.event_filter.specs.Lowering.{is_loss, is_new_status, lowers, lowers_change};
 ghost use Rattle.gerrit_events.specs.declared.finding.Finding.TheVariants.{Brings};
 
 use super::bringing::withdrawals;
@@ -36,6 +36,61 @@ pub fn lowering_first(
     let mut met = as_findings(alloc, bodies)?;
     met.append(&mut findings)?;
     Ok(met)
+}
+
+/// The findings of a line of an answer in two parts: what a record processes at once, namely each body that lowers what
+/// it says, as `lowering_first` has it, and the losses of the line; and the rest, which waits until the answer is whole.
+/// A later row may have the veto of what an item of this one depends on, and an answer that breaks off hasn't that row.
+/// Refusal: memory was refused. It costs what `lowering_first` costs.
+pub fn parted(
+    alloc: Global,
+    state: &State,
+    findings: Vec<Finding>,
+) -> Result<(Vec<Finding>, Vec<Finding>), NoMemory>
+    ensures { IfOk result (λ parts. AreParted state.now findings.items parts.0.items parts.1.items) }
+{
+    let bodies = all_lowering(alloc, state, findings.as_slice())?;
+    let mut first = as_findings(alloc, bodies)?;
+    let mut losses = losses_of(alloc, findings.as_slice())?;
+    first.append(&mut losses)?;
+    let later = without_losses(alloc, findings)?;
+    Ok((first, later))
+}
+
+/// The losses among findings.
+fn losses_of(alloc: Global, findings: &[Finding]) -> Result<Vec<Finding>, NoMemory>
+    ensures { IfOk result (λ losses. losses.items ≡ filter is_loss findings.now) }
+{
+    let mut losses = Vec::new(alloc);
+    for finding in findings {
+        if let Finding::Refuses(fault) = finding {
+            losses.push(Finding::Refuses(*fault))?;
+        }
+    }
+    Ok(losses)
+}
+
+/// Findings without their losses.
+fn without_losses(alloc: Global, findings: Vec<Finding>) -> Result<Vec<Finding>, NoMemory>
+    ensures { IfOk result (λ kept. kept.items ≡ filter (λ finding. not (is_loss finding)) findings.items) }
+{
+    let mut kept = Vec::new(alloc);
+    for finding in findings {
+        if !is_loss(&finding) {
+            kept.push(finding)?;
+        }
+    }
+    Ok(kept)
+}
+
+/// Whether a finding is a loss.
+fn is_loss(finding: &Finding) -> bool
+    ensures { result ≡ is_loss finding.now }
+{
+    match finding {
+        Finding::Brings(_) | Finding::Shows(_) | Finding::Lists(_) => false,
+        Finding::Refuses(_) => true,
+    }
 }
 
 /// Bodies as findings.

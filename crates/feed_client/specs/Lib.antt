@@ -5,4 +5,5 @@ pub mod Meeting
 pub mod Pulling
 pub mod Dialing
 pub mod Taking
+pub mod Holding
 pub mod Listing

@@ -16,10 +16,12 @@ use Rattle.gerrit_events.specs.declared.part.Part.{Part}
 use Rattle.gerrit_events.specs.declared.part.Part.TheVariants.{Nothing, Event, Row, Stats, Error}
 use Rattle.review_ops.specs.Deed.{Deed, change_of}
 use Rattle.review_ops.specs.Timestamp.{Timestamp}
+use Rattle.feed_client.specs.Holding.{AnswerRests, AnswerTakes, TakesHeld}
 use Rattle.feed_client.specs.InTurn.{InTurn}
 use Rattle.feed_client.specs.Meeting.{Offers}
 use Rattle.feed_client.specs.Rounds.{SiteRound}
-use Rattle.feed_client.specs.Taking.{LearnsNews, Seen, TakesLine, ask_lines}
+use Rattle.feed_client.specs.Taking.{Seen, ask_lines}
+use Rattle.feed_client.specs.declared.holding.HeldLine.{HeldLine}
 use Rattle.feed_client.specs.declared.intake.IntakeFault.{IntakeFault}
 use Rattle.feed_client.specs.declared.noted.Noted.{Noted}
 
@@ -61,23 +63,31 @@ module _ {Site : Type 0} (replies : Site → Deed → Result Timestamp IntakeFau
       ⊎ ((noted.is_sure ≡ false) × (result ≡ Err Incomplete) × (new ≡ old))
       ⊎ ((result ≡ Err NoMemory) × (new ≡ old))
 
-module _ {Whole Feed Site : Type 0} (feed : Whole → Feed) (noted : Whole → Noted) (shown : Feed → Seen Site)
+module _ {Whole Waiting Feed Site : Type 0} (answer : Whole → Waiting) (noted : Whole → Noted) (feed : Waiting → Feed)
+    (held : Waiting → List HeldLine) (shown : Feed → Seen Site)
     (replies : Site → Deed → Result Timestamp IntakeFault → Site → Type 0)
     (answers : Site → Result SiteRound IntakeFault → Site → Type 0) where
   abbrev pub ListingRests : Whole → Result (Unit {0}) FeedFault → Whole → Type 0
   ListingRests old result new =
-      LearnsNews answers (shown (feed old)) (shown (feed new)) result × (noted new ≡ noted old)
+      AnswerRests feed held shown replies answers (answer old) result (answer new) × (noted new ≡ noted old)
 
   abbrev pub ListingTakes : Whole → ℕ → ParsedLine → Result (Unit {0}) FeedFault → Whole → Type 0
   ListingTakes old number parsed result new =
       (Notes number parsed.part (noted old) (noted new)
-      × TakesLine replies number parsed (shown (feed old)) (shown (feed new)) result)
-      ⊎ ((result ≡ Err NoMemory) × (feed new ≡ feed old))
+      × AnswerTakes feed held shown replies answers (answer old) number parsed result (answer new))
+      ⊎ ((result ≡ Err NoMemory) × (answer new ≡ answer old))
+
+  -- what waits is taken, and then what wasn't listed is abandoned, unless the first fails
+  abbrev pub TakesAndAbandons : Whole → Whole → Result (Unit {0}) FeedFault → Type 0
+  TakesAndAbandons old new result =
+      ((mid : Feed) × TakesHeld shown replies (held (answer old)) (feed (answer old)) mid (Ok tt)
+      × AbandonsRest replies (noted old) (shown mid) (shown (feed (answer new))) result)
+      ⊎ ((fault : FeedFault) × (result ≡ Err fault)
+      × TakesHeld shown replies (held (answer old)) (feed (answer old)) (feed (answer new)) (Err fault))
 
   -- how it ends, once the answer was fed so
   abbrev pub EndsListing : Result (Unit {0}) FeedFault → Whole → Whole → Result (Unit {0}) FeedFault → Type 0
-  EndsListing (Ok done) old new result =
-      AbandonsRest replies (noted old) (shown (feed old)) (shown (feed new)) result
+  EndsListing (Ok done) old new result = TakesAndAbandons old new result
   EndsListing (Err fault) old new result = (result ≡ Err fault) × (new ≡ old)
 
   -- the answer is fed to the site, and then what it doesn't list is abandoned

@@ -1,5 +1,6 @@
 //! A feed of a site over a connection.
 
+use super::holding::{AnswerFeed, feed_answer};
 use super::inlet::{Inlet, start_reading};
 use super::inlet_reader::InletReader;
 use super::link::{FedSite, linked, reached};
@@ -10,7 +11,7 @@ use super::session::{Place, Session};
 use super::site_feed::{SiteFeed, feed_site};
 use super::watch::is_over;
 use byte_ends::{Drain, Ends, Source};
-use event_feed::{FeedFault, Input, send};
+use event_feed::{FeedFault, send};
 use footer_text::Bases;
 use gerrit_events::Projects;
 use site_net::Stop;
@@ -52,15 +53,16 @@ struct Reading<I> {
     inlet: Arc<Inlet, Global>,
 }
 
-/// Feeds the lines of an input to a site, as `feed_site` and `complete_site` do, over a connection that is sealed where
-/// the site is on another machine. Its record is pulled first, of which the state is kept, and then `pulled N` is
-/// written to the output: the record has N operations. Only then the input is read, by a thread of its own. The whole
-/// feed is one session, which ends with `quit` and `bye`. A feed of a stream pulls again over it, from its front,
-/// whenever its input was silent for a second, or the last pull was a second ago. If the session ends, so does the feed
-/// within a tenth of a second, even while the input is silent. Refusals, beside those of `feed_site` and
-/// `complete_site`: 7 `NoSite`, no site answers at the address; 8 `Ended`, also where the system gives no random bytes
-/// for sealing; 10 `NoKey`, the site has no such key; 11 `NotProved`, what answers didn't prove that it has it; 12
-/// `NotAllowed`, the key may only read; 13 `NoEnd`, more than 256 operations lie past a gap of the site's record.
+/// Feeds the lines of an input to a site, as `feed_site`, `feed_answer` and `complete_site` do, over a connection that
+/// is sealed where the site is on another machine. Its record is pulled first, of which the state is kept, and then
+/// `pulled N` is written to the output: the record has N operations. Only then the input is read, by a thread of its
+/// own. The whole feed is one session, which ends with `quit` and `bye`. A feed of a stream pulls again over it, from
+/// its front, whenever its input was silent for a second, or the last pull was a second ago. If the session ends, so
+/// does the feed within a tenth of a second, even while the input is silent. Refusals, beside those of `feed_site`,
+/// `feed_answer` and `complete_site`: 7 `NoSite`, no site answers at the address; 8 `Ended`, also where the system gives
+/// no random bytes for sealing; 10 `NoKey`, the site has no such key; 11 `NotProved`, what answers didn't prove that it
+/// has it; 12 `NotAllowed`, the key may only read; 13 `NoEnd`, more than 256 operations lie past a gap of the site's
+/// record.
 pub fn feed_to<R, I, O, E>(
     rt: R,
     alloc: Global,
@@ -234,28 +236,16 @@ fn run<R: Wait + Clock, O: Drain + Drop, E: Drain + Drop>(
     let place = feed.site.place();
     let mut source = Ends::new(InletReader::new(rt, alloc, place.inlet, place.stream));
     let mut listing = Listing {
-        feed,
+        feed: AnswerFeed::new(feed),
         noted: Noted::new(alloc),
     };
     let fed = match feeds {
-        Feeds::Stream => feed_site(
-            alloc,
-            Input::Stream,
-            projects,
-            &mut source,
-            &mut listing.feed,
-        ),
-        Feeds::Query => feed_site(
-            alloc,
-            Input::Answer,
-            projects,
-            &mut source,
-            &mut listing.feed,
-        ),
+        Feeds::Stream => feed_site(alloc, projects, &mut source, &mut listing.feed.feed),
+        Feeds::Query => feed_answer(alloc, projects, &mut source, &mut listing.feed),
         Feeds::Complete => complete_site(alloc, projects, &mut source, &mut listing),
     };
     match fed {
-        Ok(()) => listing.feed.site.expect("quit\n", b"bye"),
+        Ok(()) => listing.feed.feed.site.expect("quit\n", b"bye"),
         Err(FeedFault::ReadFault) if is_over(place.stream) => Err(FeedFault::Ended),
         Err(fault) => Err(fault),
     }

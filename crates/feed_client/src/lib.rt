@@ -35,6 +35,7 @@
 mod answer;
 mod answer_reader;
 mod connection;
+mod holding;
 mod inlet;
 mod inlet_reader;
 mod intake;
@@ -49,6 +50,7 @@ mod watch;
 
 pub use answer::read_answer;
 pub use connection::{FeedOrder, Feeds, feed_to};
+pub use holding::{AnswerFeed, HeldLine, feed_answer};
 pub use intake::{Intake, IntakeFault, Refusal};
 pub use link::FedSite;
 pub use listing::{Listing, complete_site};

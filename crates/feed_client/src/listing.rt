@@ -2,10 +2,11 @@
 
 ghost use Rattle.std.specs.Prelude.{◌≡◌, IfOk, map, string_bytes};
 ghost use Rattle.review_ops.specs.Deed.{change_of};
-ghost use Rattle.feed_client.specs.Listing.{AbandonsRest, CompletesSite};
+ghost use Rattle.feed_client.specs.Listing.{AbandonsRest, CompletesSite, TakesAndAbandons};
 ghost use Rattle.feed_client.specs.Meeting.{place_at};
 ghost use Rattle.feed_client.specs.Taking.{ask_lines, seen_at};
 
+use super::holding::AnswerFeed;
 use super::intake::Intake;
 use super::meet::offer_all;
 use super::noted::Noted;
@@ -48,26 +49,43 @@ impl<T: Taker> Taker for Listing<T> {
     }
 }
 
-/// Feeds the answer of a query to a site, as `feed_site` does, where it lists every open change: once it has come to
-/// its end, each change that the record has as NEW and that no row lists is asked for, since it may be merged, and then
+/// Feeds the answer of a query to a site, as `feed_answer` does, where it lists every open change: once what it says is
+/// taken in, each change that the record has as NEW and that no row lists is asked for, since it may be merged, and then
 /// abandoned, in the order of their numbers. Where a line of the answer couldn't be read nothing is asked for or
 /// abandoned, since it may have listed a change. What the site refuses of these abandons is reported with the number of
-/// the last line. Refusals: those of `feed_site`; 9 `Incomplete` also where a line couldn't be read. It costs what
-/// `feed_site` costs, and O(n) for n changes of the record.
+/// the last line. Refusals: those of `feed_answer`; 9 `Incomplete` also where a line couldn't be read. It costs what
+/// `feed_answer` costs, and O(n) for n changes of the record.
 pub fn complete_site<S: Source, T: Intake, O: Drain, E: Drain>(
     alloc: Global,
     projects: &Projects,
     source: &mut S,
-    listing: &mut Listing<SiteFeed<T, O, E>>,
+    listing: &mut Listing<AnswerFeed<T, O, E>>,
 ) -> Result<(), FeedFault>
-    ensures { CompletesSite (λ listing. listing.feed) (λ listing. listing.noted)
+    ensures { CompletesSite (λ listing. listing.feed) (λ listing. listing.noted) (λ answer. answer.feed)
+        (λ answer. answer.held.items)
         (λ feed. seen_at feed.bases (place_at feed.site feed.state (E.taken feed.errors) (E.failed feed.errors))
         (O.taken feed.output) (O.failed feed.output))
         T.replies T.answers projects.now
         (S.left source.old) (S.failed source.old) listing.old (S.left source.new) (S.failed source.new) listing.new result }
 {
     match feed_lines(alloc, Input::Answer, projects, source, listing) {
-        Ok(()) => abandon_rest(&listing.noted, &mut listing.feed),
+        Ok(()) => end_listing(listing),
+        Err(fault) => Err(fault),
+    }
+}
+
+/// Takes what has waited, and then abandons what isn't listed.
+fn end_listing<T: Intake, O: Drain, E: Drain>(
+    listing: &mut Listing<AnswerFeed<T, O, E>>,
+) -> Result<(), FeedFault>
+    ensures { TakesAndAbandons (λ listing. listing.feed) (λ listing. listing.noted) (λ answer. answer.feed)
+        (λ answer. answer.held.items)
+        (λ feed. seen_at feed.bases (place_at feed.site feed.state (E.taken feed.errors) (E.failed feed.errors))
+        (O.taken feed.output) (O.failed feed.output))
+        T.replies T.answers listing.old listing.new result }
+{
+    match listing.feed.take_held() {
+        Ok(()) => abandon_rest(&listing.noted, &mut listing.feed.feed),
         Err(fault) => Err(fault),
     }
 }

@@ -1,6 +1,7 @@
 //! Feeds the lines of a source to a site.
 
 ghost use Rattle.std.specs.Prelude.{◌≡◌, ◌++◌, IfOk, OnOk, string_bytes};
+ghost use Rattle.event_feed.specs.declared.progress.Input.TheVariants.{Stream};
 ghost use Rattle.feed_client.specs.Meeting.{place_at};
 ghost use Rattle.feed_client.specs.Taking.{FeedsSite, ask_line, asked_line, asked_lines, is_event_of, seen_at};
 
@@ -77,7 +78,7 @@ impl<T: Intake, O: Drain, E: Drain> Taker for SiteFeed<T, O, E> {
     }
 }
 
-/// Reads the lines of a source, as `event_feed::feed_lines` does, and offers the bodies of each to a site, first what
+/// Reads the lines of a stream of events, as `event_feed::feed_lines` does, and offers the bodies of each to a site, first what
 /// lowers a score or abandons a change and then all in order, except what the state says already. What the site takes in is taken into the state,
 /// too, and so is, before more of the source is read, what others brought to the site. The changes that have to be
 /// queried because of a line are written to the output before its bodies are offered, by number: as `ask N` where the
@@ -90,7 +91,6 @@ impl<T: Intake, O: Drain, E: Drain> Taker for SiteFeed<T, O, E> {
 /// each body, for m changes, patch sets and votes of the state.
 pub fn feed_site<S: Source, T: Intake, O: Drain, E: Drain>(
     alloc: Global,
-    input: Input,
     projects: &Projects,
     source: &mut S,
     feed: &mut SiteFeed<T, O, E>,
@@ -98,10 +98,10 @@ pub fn feed_site<S: Source, T: Intake, O: Drain, E: Drain>(
     ensures { FeedsSite
         (λ feed. seen_at feed.bases (place_at feed.site feed.state (E.taken feed.errors) (E.failed feed.errors))
         (O.taken feed.output) (O.failed feed.output))
-        T.replies T.answers input projects.now (S.left source.old) (S.failed source.old) feed.old (S.left source.new)
+        T.replies T.answers Stream projects.now (S.left source.old) (S.failed source.old) feed.old (S.left source.new)
         (S.failed source.new) feed.new result }
 {
-    feed_lines(alloc, input, projects, source, feed)
+    feed_lines(alloc, Input::Stream, projects, source, feed)
 }
 
 /// The lines that ask for changes where a line is met.

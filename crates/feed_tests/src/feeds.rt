@@ -2,9 +2,10 @@
 
 use super::asserts::assert_found;
 use byte_ends::{Broken, Drain, Ends};
-use event_feed::{FeedFault, Input};
+use event_feed::FeedFault;
 use feed_client::{
-    Intake, IntakeFault, Listing, Noted, Refusal, SiteFeed, complete_site, feed_site, read_answer,
+    AnswerFeed, Intake, IntakeFault, Listing, Noted, Refusal, SiteFeed, complete_site, feed_answer,
+    feed_site, read_answer,
 };
 use footer_text::Bases;
 use gerrit_events::Projects;
@@ -157,13 +158,7 @@ fn assert_ended(
 /// Feeds lines to a site, and asserts what is asked for and reported and how the feed ends.
 fn assert_feed(rt: &(impl Abort + AllocGlobal), feed: &mut TestFeed, lines: &str, wanted: Wanted) {
     let mut source = Ends::new(lines.as_bytes());
-    let ended = feed_site(
-        rt.alloc(),
-        Input::Stream,
-        &Projects::all(),
-        &mut source,
-        feed,
-    );
+    let ended = feed_site(rt.alloc(), &Projects::all(), &mut source, feed);
     assert_ended(rt, feed, ended, wanted);
 }
 
@@ -318,13 +313,14 @@ fn assert_completed(rt: &(impl Abort + AllocGlobal), lines: &str, wanted: Wanted
     assert_feed(rt, &mut feed, NEEDY, known);
     let before = feed.site.count;
     let mut listing = Listing {
-        feed,
+        feed: AnswerFeed::new(feed),
         noted: Noted::new(alloc),
     };
     let mut source = Ends::new(lines.as_bytes());
     let ended = complete_site(alloc, &Projects::all(), &mut source, &mut listing);
-    assert_ended(rt, &mut listing.feed, ended, wanted);
-    assert_found(rt, listing.feed.site.count.wrapping_sub(before), count);
+    let mut feed = listing.feed.feed;
+    assert_ended(rt, &mut feed, ended, wanted);
+    assert_found(rt, feed.site.count.wrapping_sub(before), count);
 }
 
 /// Change 9 is asked for and abandoned where a whole answer doesn't list it, and each line of the answer was read.
@@ -367,6 +363,64 @@ fn an_answer_that_is_not_whole_abandons_nothing(rt: HostRuntime) {
     }
 }
 
+/// The row of a change with an approval, and that of another one with a veto, and a line that can't be read between
+/// them.
+const ROWS: &str = concat!(
+    r#"{"number":9,"status":"NEW","commitMessage":"m","currentPatchSet":{"number":1,"approvals":[{"type":"Verified","value":"1","by":{"username":"zuul"}}]}}"#,
+    "\n{\n",
+    r#"{"number":4,"status":"NEW","commitMessage":"m","currentPatchSet":{"number":1,"approvals":[{"type":"Code-Review","value":"-2","by":{"username":"bob"}}]}}"#,
+    "\n",
+);
+
+/// What is offered of them at once.
+const VETO: &str =
+    "{\"change\":4,\"label\":\"code-review\",\"op\":\"vote\",\"set\":1,\"value\":-2,\"voter\":\"bob\"}\n";
+
+/// What is offered once the answer is whole.
+const REST: &str = concat!(
+    r#"{"change":9,"message":"m","op":"patchset","set":1}"#,
+    "\n",
+    r#"{"change":9,"label":"verified","op":"vote","set":1,"value":1,"voter":"zuul"}"#,
+    "\n",
+    r#"{"change":4,"message":"m","op":"patchset","set":1}"#,
+    "\n",
+);
+
+/// Feeds the answer to a query, and asserts what is offered, that its second line is reported, and how that ends.
+fn assert_answered(
+    rt: &(impl Abort + AllocGlobal),
+    lines: &str,
+    offered: &str,
+    ended: Result<(), FeedFault>,
+) {
+    let mut answer = AnswerFeed::new(taking_feed(rt.alloc()));
+    let mut source = Ends::new(lines.as_bytes());
+    let found = feed_answer(rt.alloc(), &Projects::all(), &mut source, &mut answer);
+    let wanted = Wanted {
+        asks: "",
+        reports: "reviewgate: events 1 BadEvent 2 line\n",
+        ended,
+    };
+    let mut feed = answer.feed;
+    assert_ended(rt, &mut feed, found, wanted);
+    assert_found(rt, feed.site.offered.as_str(), offered);
+}
+
+/// What lowers an item is offered as it comes, and the rest once the answer is whole.
+#[test]
+fn an_answer_raises_nothing_before_it_is_whole(rt: HostRuntime) -> Result<(), Fail> {
+    assert_answered(&rt, ROWS, VETO, Err(FeedFault::Incomplete));
+    let mut cut = String::from_str(rt.alloc(), ROWS)?;
+    cut.push_str("{\"type\":\"error\",\"message\":\"m\"}\n")?;
+    assert_answered(&rt, cut.as_str(), VETO, Err(FeedFault::Incomplete));
+    let mut whole = String::from_str(rt.alloc(), ROWS)?;
+    whole.push_str("{\"type\":\"stats\"}\n")?;
+    let mut all = String::from_str(rt.alloc(), VETO)?;
+    all.push_str(REST)?;
+    assert_answered(&rt, whole.as_str(), all.as_str(), Ok(()));
+    Ok(())
+}
+
 /// How a feed of the events ends from a source that fails at its first call, or to outputs of which one does.
 fn ended_with<O: Drain + Drop, E: Drain + Drop>(
     alloc: Global,
@@ -384,13 +438,7 @@ fn ended_with<O: Drain + Drop, E: Drain + Drop>(
     };
     let call = if fails { 1 } else { 99 };
     let mut source = Broken::at_call(Ends::new(EVENTS.as_bytes()), call);
-    feed_site(
-        alloc,
-        Input::Stream,
-        &Projects::all(),
-        &mut source,
-        &mut feed,
-    )
+    feed_site(alloc, &Projects::all(), &mut source, &mut feed)
 }
 
 #[test]

@@ -7,7 +7,7 @@ returns-in-Ok g c =
       between = _;
       answered = _;
       fed = c.in-Ok.ensures;
-      ended = c.abandon_rest.ensures;
+      ended = c.end_listing.ensures;
     }
 
 pub returns-in-Err : goal.returns-in-Err
