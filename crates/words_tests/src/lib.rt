@@ -1,5 +1,5 @@
-//! Tests of command lines: what their arguments ask for, and the texts of help and of usage errors. A crate of tests
-//! alone, as `record_tests` is.
+//! Tests of command lines: what their arguments ask for. The texts of help and of usage errors are in
+//! `plays/words.play`. A crate of tests alone, as `record_tests` is.
 #![tactic(auto)]
 
 #[cfg(test)]
@@ -12,5 +12,3 @@ mod feeds;
 mod queries;
 #[cfg(test)]
 mod sites;
-#[cfg(test)]
-mod texts;
