@@ -1,31 +1,16 @@
-//! Tests of the commands, over arguments, inputs and files. A crate of tests alone, as `record_tests` is.
+//! Tests of the commands over memory: that each is answered, and what failing inputs, outputs and files do. What each
+//! command prints is in `plays`. A crate of tests alone, as `record_tests` is.
 #![tactic(auto)]
 
 #[cfg(test)]
+mod answers;
+#[cfg(test)]
 mod asserts;
 #[cfg(test)]
-mod checks;
-#[cfg(test)]
-mod footers;
-#[cfg(test)]
-mod json_answers;
-#[cfg(test)]
-mod json_reasons;
-#[cfg(test)]
-mod merges;
+mod broken_ends;
 #[cfg(test)]
 mod one_file;
 #[cfg(test)]
-mod pictures;
-#[cfg(test)]
 mod program;
-#[cfg(test)]
-mod reasons;
-#[cfg(test)]
-mod records;
-#[cfg(test)]
-mod reports;
-#[cfg(test)]
-mod scripts;
 #[cfg(test)]
 mod system_files;

@@ -7,9 +7,6 @@ use console::Named;
 use std::alloc::Global;
 use std::process::Abort;
 
-/// What a test lacks where memory is refused that it counts on.
-pub const MEMORY: &str = "memory";
-
 /// What the program wrote to standard output and standard error, and its exit status.
 pub type Printed = (Vec<u8>, Vec<u8>, u8);
 
@@ -24,20 +21,6 @@ pub fn printed_by<I: Source, N: Named>(
     let mut errors = Ends::new(Vec::new(alloc));
     let status = run_words(alloc, words, input, &mut output, &mut errors, files);
     (output.into_inner(), errors.into_inner(), status)
-}
-
-/// For what it was asked the program wrote this to standard output and standard error, and ended with this exit status.
-pub fn assert_printed(
-    rt: &impl Abort,
-    asked: &str,
-    printed: &Printed,
-    output: &str,
-    errors: &str,
-    status: u8,
-) {
-    let found = (printed.0.as_slice(), printed.1.as_slice(), printed.2);
-    let wanted = (output.as_bytes(), errors.as_bytes(), status);
-    assert_found(rt, (asked, found), (asked, wanted));
 }
 
 /// What the program wrote to standard error, and its exit status.
