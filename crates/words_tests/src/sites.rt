@@ -397,25 +397,6 @@ fn words_name_peers(rt: HostRuntime) -> Result<(), Fail> {
     Ok(())
 }
 
-/// Who may connect to a site's sockets by this word, if the word says so.
-fn mode_of(alloc: Global, word: &str) -> Option<SocketMode> {
-    let words = ["serve", "g", "--site=1", "--start=1", "--mode", word];
-    let serving = serving_of(alloc, words.as_slice())?;
-    Some(serving.mode)
-}
-
-#[test]
-fn each_word_says_who_may_connect(rt: HostRuntime) {
-    for (word, wanted) in [
-        ("600", Some(SocketMode::Owner)),
-        ("660", Some(SocketMode::Group)),
-        ("0600", None),
-        ("666", None),
-    ] {
-        assert_eq!(rt; mode_of(rt.alloc(), word), wanted);
-    }
-}
-
 /// Whether a site shows itself there by this word; or, where nothing is wanted, the word says nothing of it.
 fn shows_at(alloc: Global, word: &str, wanted: Option<PageAddress<'_>>) -> bool {
     let words = ["serve", "g", "--site=1", "--start=1", "--http", word];
@@ -440,25 +421,5 @@ fn each_word_says_where_a_site_shows_itself(rt: HostRuntime) {
         ("", None),
     ] {
         assert!(rt; shows_at(rt.alloc(), word, wanted), "{word}");
-    }
-}
-
-/// What a site prints by this word, if the word says so.
-fn printing_of(alloc: Global, word: &str) -> Option<Printing> {
-    let words = ["serve", "g", "--site=1", "--start=1", "--print", word];
-    let serving = serving_of(alloc, words.as_slice())?;
-    Some(serving.prints)
-}
-
-#[test]
-fn each_word_says_what_is_printed(rt: HostRuntime) {
-    for (word, wanted) in [
-        ("report", Some(Printing::Report)),
-        ("changes", Some(Printing::Changes)),
-        ("none", Some(Printing::Nothing)),
-        ("Report", None),
-        ("", None),
-    ] {
-        assert_eq!(rt; printing_of(rt.alloc(), word), wanted);
     }
 }
