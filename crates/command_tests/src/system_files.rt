@@ -1,4 +1,5 @@
-//! Real files, opened by their names: which calls count as failed. What commands print of them is in `plays/files.play`.
+//! Real files, opened by their names: which calls count as failed. What commands print of them is in
+//! `plays/files.play`.
 
 use super::asserts::assert_found;
 use super::program::printed_by;
@@ -19,8 +20,8 @@ fn fault_of(read: Result<Vec<u8>, BytesFault>) -> Option<BytesFault> {
     }
 }
 
-// A file that is there, also read as one byte too long, a folder, and one that isn't there; and a snapshot, and a folder
-// in its place.
+// A file that is there, also read as one byte too long, a folder, and one that isn't there; and a snapshot, and a
+// folder in its place.
 #[test]
 fn files_that_fail_are_counted(rt: HostRuntime) -> Result<(), Fail> {
     let name = "reviewgate_snapshot.tmp";
