@@ -5,7 +5,7 @@ It is as short as can be and slow. Texts are bytes, since that is what the progr
 
 import json
 import re
-from dataclasses import dataclass, field
+from dataclasses import dataclass, field, replace
 
 TOP_U64 = 2**64 - 1
 TOP_U32 = 2**32 - 1
@@ -1084,14 +1084,7 @@ class Feed:
     def line(self, number: int, line: bytes) -> None:
         parsed = parse_line(line, self.known, self.projects)
         self.is_sure = self.is_sure and not (parsed.part is None or parsed.part == "row" and parsed.change is None)
-        self.before(parsed)
-        for found in self.in_turn(parsed.found):
-            if found is DROPPED:
-                raise FeedEnds(f"2 Dropped {number}")
-            if isinstance(found, str):
-                self.report(number, found)
-            else:
-                self.meet(number, found)
+        self.take_line(number, parsed)
         if parsed.part == "error":
             raise FeedEnds("9 Incomplete")
         if parsed.part == "row":
@@ -1103,6 +1096,16 @@ class Feed:
     def end(self) -> None:
         if self.progress == "open" or self.progress is None and self.way != STREAM:
             raise FeedEnds("9 Incomplete")
+
+    def take_line(self, number: int, parsed: ParsedLine) -> None:
+        self.before(parsed)
+        for found in self.in_turn(parsed.found):
+            if found is DROPPED:
+                raise FeedEnds(f"2 Dropped {number}")
+            if isinstance(found, str):
+                self.report(number, found)
+            else:
+                self.meet(number, found)
 
     def report(self, number: int, key: str) -> None:
         self.errors += b"reviewgate: events 1 BadEvent %d %s\n" % (number, key.encode())
@@ -1137,7 +1140,7 @@ class Offered(Feed):
     def __init__(self, record: Record, site: int, start: int, bases: list | None, *ways):
         super().__init__(*ways)
         self.record, self.site, self.start, self.bases = record, site, start, bases
-        self.state = State(record)
+        self.state, self.held = State(record), []
 
     def run(self, text: bytes):
         self.output = b"pulled %d\n" % len(self.record.ops)
@@ -1205,9 +1208,30 @@ class Offered(Feed):
     def is_known(self, change: int) -> bool:
         return change in self.state.current or change in self.state.merged
 
+    def take_line(self, number: int, parsed: ParsedLine) -> None:
+        """Of an answer what lowers an item and the losses come first; the rest waits until the answer is whole."""
+        if self.way == STREAM:
+            super().take_line(number, parsed)
+            return
+        losses = [found for found in parsed.found if isinstance(found, str) or found is DROPPED]
+        later = [found for found in parsed.found if not isinstance(found, str) and found is not DROPPED]
+        self.held.append((number, replace(parsed, found=later)))
+        super().take_line(number, replace(parsed, found=self.lowering(parsed.found) + losses))
+
     def in_turn(self, found: list) -> list:
-        """The votes below 0 first, and then all that was found."""
-        return [one for one in found if isinstance(one, Deed) and one.kind == "vote" and one.value < 0] + found
+        """What lowers an item first, and then all that was found."""
+        return self.lowering(found) + found
+
+    def lowering(self, found: list) -> list:
+        """What lowers a score of the record, or abandons an open change."""
+        deeds = [deed for one in found for deed in (self.brought(one) if isinstance(one, Listed) else [one])]
+        return [deed for deed in deeds if isinstance(deed, Deed) and self.lowers(deed)]
+
+    def lowers(self, deed: Deed) -> bool:
+        if deed.kind in ("vote", "withdraw"):
+            slot = (deed.change, deed.set, deed.label, deed.voter)
+            return deed.value < self.state.votes.get(slot, (None, 0))[1]
+        return deed.kind == "abandon" and self.state.status(deed.change) == "NEW"
 
     def meet(self, number: int, found) -> None:
         if isinstance(found, Deed) and found.kind in ("abandon", "restore") and found.change in self.state.merged:
@@ -1254,6 +1278,8 @@ class Offered(Feed):
 
     def end(self) -> None:
         super().end()
+        for number, parsed in self.held:
+            super().take_line(number, parsed)
         if self.way == COMPLETE:
             if not self.is_sure:
                 raise FeedEnds("9 Incomplete")
