@@ -318,7 +318,8 @@ fn assert_completed(rt: &(impl Abort + AllocGlobal), lines: &str, wanted: Wanted
     };
     let mut source = Ends::new(lines.as_bytes());
     let ended = complete_site(alloc, &Projects::all(), &mut source, &mut listing);
-    let mut feed = listing.feed.feed;
+    let answer = listing.feed;
+    let mut feed = answer.feed;
     assert_ended(rt, &mut feed, ended, wanted);
     assert_found(rt, feed.site.count.wrapping_sub(before), count);
 }
