@@ -622,13 +622,11 @@ fn votes_below_0_are_met_first(rt: HostRuntime) {
             Found::Refuses,
         ],
     );
-    let found = met.as_ref().map(|met| (met.0.as_str(), met.1.as_str()));
-    let rest = text_of_lines(rt.alloc(), &[FIRST_TEXT, VOTE_TEXT, VETO_TEXT, GONE_TEXT]);
-    assert_found(
-        &rt,
-        found,
-        rest.as_ref().map(|rest| (VETO_TEXT, rest.as_str())),
-    );
+    let first = met.as_ref().map(|met| met.0.as_str());
+    assert_found(&rt, first, Some(VETO_TEXT));
+    let rest = met.as_ref().map(|met| met.1.as_str());
+    let wanted = text_of_lines(rt.alloc(), &[FIRST_TEXT, VOTE_TEXT, VETO_TEXT, GONE_TEXT]);
+    assert_found(&rt, rest, wanted.as_deref());
 }
 
 /// A record, what is found in a line, and the bodies that are put first.
