@@ -124,10 +124,11 @@ fn take_lines<F: Taker>(lines: Vec<HeldLine>, feed: &mut F) -> Result<(), FeedFa
 
 /// Feeds the answer to a query to a site, in two steps. Of each row that comes it offers what lowers an item
 /// (`event_filter::parted`) and reports the losses, as `feed_site` does; the rest of the rows waits, in memory, until the
-/// answer is whole, and is then offered as `feed_site` does, row by row. So no item is ready since a row for it came
-/// before the row of what it depends on, and an answer that breaks off makes nothing ready. Refusals: those of
-/// `feed_site`; 9 `Incomplete`, Gerrit answered with an error, or the source ended within the answer or before it. It
-/// costs what `feed_site` costs.
+/// answer is whole, and is then offered as `feed_site` does, row by row. So a veto is taken in before the approvals of
+/// all rows, and an answer that breaks off approves nothing. Patch sets wait, too: an item may be ready for a moment
+/// before a later row brings a new patch set of what it depends on. Refusals: those of `feed_site`; 9 `Incomplete`,
+/// Gerrit answered with an error, or the source ended within the answer or before it. It costs what `feed_site` costs,
+/// and memory for all that waits.
 pub fn feed_answer<S: Source, T: Intake, O: Drain, E: Drain>(
     alloc: Global,
     projects: &Projects,
